@@ -1,0 +1,2 @@
+pub mod Whitespace
+pub mod Cursor

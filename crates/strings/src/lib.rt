@@ -1,0 +1,142 @@
+// The string table: its rule with code 1, and the text of a string.
+use tables::Checked;
+ghost use mathlib.Core.Path.{_≡_};
+ghost use Prim.Native.Nat.{_≤_, _<_};
+ghost use lib.ListN.{length};
+ghost use Rattle.tables.specs.Answers.{Decides, Finds};
+ghost use Rattle.tables.specs.Place.{Part};
+ghost use Rattle.strings.specs.Strings.{startOf, endOf, Falls, Repeats, FrontFault, EndFault, StringFault, maxStrings};
+ghost use Rattle.strings.specs.Text.{StringText};
+
+pub const MAX_STRINGS: usize = 512;
+
+pub const MAX_BYTES: usize = 16384;
+
+// Where string k starts: at the end of the string before.
+pub fn start(ends: &[u32], k: usize) -> usize
+    ensures { λ r. ⌜ r ≡ startOf (now (ends .entry)) k ⌝ }
+{
+    if k == 0 {
+        0
+    } else {
+        tables::word(ends, k - 1) as usize
+    }
+}
+
+// The text of string k, as a part of the lent bytes, whatever the ends are.
+pub fn text<'a>(bytes: &'a [u8], ends: &[u32], k: usize) -> &'a [u8]
+    ensures { λ r. ⌜ Part (bytes .entry) (startOf (now (ends .entry)) k) (endOf (now (ends .entry)) k) r ⌝ }
+{
+    let from = start(ends, k);
+    let to = tables::word(ends, k) as usize;
+    tables::part(bytes, from, to)
+}
+
+// The first string whose end is before its start.
+fn first_fall(ends: &[u32]) -> Checked
+    requires { ⌜ length (now ends) ≤ maxStrings ⌝ }
+    ensures { λ r. ⌜ Finds (Falls (now (ends .entry))) r ⌝ }
+{
+    let mut k = 0;
+    while k < ends.len() {
+        if (ends[k] as usize) < start(ends, k) {
+            return Checked::Fault(k as u32);
+        }
+        k += 1;
+    }
+    Checked::Fine
+}
+
+// Whether a string before k has the text of string k.
+fn repeats(bytes: &[u8], ends: &[u32], k: usize) -> bool
+    requires { ⌜ k < length (now ends) ⌝ }
+    ensures { λ r. ⌜ Decides (Repeats (now (bytes .entry)) (now (ends .entry)) k) r ⌝ }
+{
+    let own = text(bytes, ends, k);
+    let mut j = 0;
+    while j < k {
+        if tables::same_bytes(text(bytes, ends, j), own) {
+            return true;
+        }
+        j += 1;
+    }
+    false
+}
+
+// The first string that has the text of one before it.
+fn first_repeat(bytes: &[u8], ends: &[u32]) -> Checked
+    requires { ⌜ length (now ends) ≤ maxStrings ⌝ }
+    ensures { λ r. ⌜ Finds (Repeats (now (bytes .entry)) (now (ends .entry))) r ⌝ }
+{
+    let mut k = 0;
+    while k < ends.len() {
+        if repeats(bytes, ends, k) {
+            return Checked::Fault(k as u32);
+        }
+        k += 1;
+    }
+    Checked::Fine
+}
+
+// The number of strings, the number of bytes, and string 0.
+fn check_front(bytes: &[u8], ends: &[u32]) -> Checked
+    ensures { λ r. ⌜ Finds (FrontFault (now (bytes .entry)) (now (ends .entry))) r ⌝ }
+{
+    if ends.len() == 0 {
+        return Checked::Fault(0);
+    }
+    if MAX_STRINGS < ends.len() {
+        return Checked::Fault(0);
+    }
+    if MAX_BYTES < bytes.len() {
+        return Checked::Fault(0);
+    }
+    if ends[0] != 0 {
+        return Checked::Fault(0);
+    }
+    Checked::Fine
+}
+
+// The counts and the ends.
+fn check_ends(bytes: &[u8], ends: &[u32]) -> Checked
+    ensures { λ r. ⌜ Finds (EndFault (now (bytes .entry)) (now (ends .entry))) r ⌝ }
+{
+    let front = check_front(bytes, ends);
+    let Checked::Fine = front else {
+        return front;
+    };
+    let falls = first_fall(ends);
+    let Checked::Fine = falls else {
+        return falls;
+    };
+    let last = ends.len() - 1;
+    if ends[last] as usize != bytes.len() {
+        return Checked::Fault(last as u32);
+    }
+    Checked::Fine
+}
+
+// Code 1: the place of the first string that breaks the rule of the table.
+pub fn check_strings(bytes: &[u8], ends: &[u32]) -> Checked
+    ensures { λ r. ⌜ Finds (StringFault (now (bytes .entry)) (now (ends .entry))) r ⌝ }
+{
+    let checked = check_ends(bytes, ends);
+    let Checked::Fine = checked else {
+        return checked;
+    };
+    first_repeat(bytes, ends)
+}
+
+// The text of string k as a part of the lent bytes; an empty part from their start where the strings break their rule or have no string k.
+pub fn string_text<'a>(bytes: &'a [u8], ends: &[u32], k: u32) -> &'a [u8]
+    ensures { λ r. ⌜ StringText (bytes .entry) (now (ends .entry)) k r ⌝ }
+{
+    let Checked::Fine = check_strings(bytes, ends) else {
+        return &bytes[..0];
+    };
+    let at = k as usize;
+    if ends.len() <= at {
+        return &bytes[..0];
+    }
+    text(bytes, ends, at)
+}

@@ -1,0 +1,4 @@
+pub mod Answers
+pub mod Fill
+pub mod Numbers
+pub mod Parts
