@@ -153,13 +153,13 @@ impl Rng {
 
 #[rustfmt::skip]
 fn named_tables(y: &mut Tally) {
-    let cases: [(&str, &[(&[u8], &[u32], u64)]); 13] = [
+    let cases: [(&str, &[(&[u8], &[u32], u64)]); 14] = [
         ("zero strings", &[(b"", &[], at(0)), (b"ab", &[], at(0))]),
         ("one string", &[(b"", &[0], 0), (b"a", &[1], at(0)), (b"a", &[0], at(0))]),
-        ("valid", &[(b"a", &[0, 1], 0), (b"aaaabb", &[0, 1, 3, 5, 6], 0), (b"\0\0\0", &[0, 1, 3], 0)]),
+        ("valid", &[(b"a", &[0, 1], 0), (b"aaaabb", &[0, 1, 3, 5, 6], 0), (b"\0\0\0", &[0, 2, 3], 0)]),
         ("string 0 not empty", &[(b"ab", &[1, 2], at(0)), (b"ab", &[2, 2], at(0))]),
         ("fall", &[(b"abc", &[0, 2, 1, 3], at(2)), (b"abc", &[0, 2, 0, 3], at(2)),
-            (b"ab", &[0, 2, 1], at(2)), (b"abc", &[0, 1, 9, 3], at(3)), (b"a", &[0, 9, 9, 0, 1], at(3))]),
+            (b"ab", &[0, 2, 1], at(2)), (b"abc", &[0, 1, 9, 3], at(3)), (b"a", &[0, 9, 9, 1], at(3))]),
         ("wrong last end", &[(b"abc", &[0, 1, 2], at(2)), (b"abc", &[0, 1, 4], at(2)),
             (b"ab", &[0, 9, 9], at(2))]),
         ("equal strings", &[(b"abab", &[0, 2, 4], at(2)), (b"abcab", &[0, 2, 3, 5], at(3)),
@@ -173,6 +173,7 @@ fn named_tables(y: &mut Tally) {
         ("end 2^32 - 1", &[(b"ab", &[MAX], at(0)), (b"", &[MAX, 0], at(0)), (b"", &[0, MAX], at(1)),
             (b"ab", &[0, 1, MAX], at(2)), (b"ab", &[0, MAX, 2], at(2)), (b"a", &[0, 1, MAX, 1], at(3)),
             (b"ab", &[0, MAX, MAX], at(2)), (b"ab", &[0, MAX, MAX - 1, MAX], at(2))]),
+        ("end past 2^16", &[(b"ab", &[0, 1, 65_538], at(2)), (b"ab", &[0, 65_537, 2], at(2))]),
     ];
     for (name, tables) in cases {
         for (bytes, ends, expected) in tables {
@@ -228,13 +229,12 @@ fn named_texts(y: &mut Tally) {
     for (k, len, out) in cases {
         y.text("text of a small table", &small, k, len, out);
     }
-    let faults: [(&[u8], &[u32]); 7] = [
-        (b"abcdef", &[0, 1, 3, 5]), (b"abcdef", &[0, 1, 3, 7]), (b"abcdef", &[0, 3, 1, 6]),
-        (b"abcabc", &[0, 3, 6]), (b"abcdef", &[0, 3, 3, 6]), (b"abcdef", &[1, 3, 6]), (b"abc", &[]),
+    let faults: [&[u32]; 7] = [
+        &[0, 1, 3, 5], &[0, 1, 3, 7], &[0, 3, 1, 6], &[0, 3, 6], &[0, 3, 3, 6], &[1, 3, 6], &[],
     ];
-    for (bytes, ends) in faults {
+    for t in faults.map(|ends| table(b"abcabc", ends)) {
         for k in [0, 1, 2, 3, 4, MAX] {
-            y.text("text of a table with a fault", &table(bytes, ends), k, 0, b"\0\0\0");
+            y.text("text of a table with a fault", &t, k, 0, b"\0\0\0");
         }
     }
 
@@ -273,8 +273,7 @@ fn named_texts(y: &mut Tally) {
 
 /// A list of n strings, distinct, the first empty, of at most 16,384 bytes in all.
 fn make_list(r: &Rng, n: usize) -> Vec<Vec<u8>> {
-    let (two, all): (&[u8], Vec<u8>) = (b"ab", (0..=255).collect());
-    let letters = r.pick(&[two, &all]);
+    let letters: Vec<u8> = (0..=r.pick(&[1, 255])).collect();
     let most = (16_384 / n).min(r.pick(&[12, 16_384]));
     let mut list = vec![vec![]];
     let mut seen = HashSet::from([vec![]]);
@@ -282,7 +281,7 @@ fn make_list(r: &Rng, n: usize) -> Vec<Vec<u8>> {
         // An earlier string but for its last byte, or nothing; then one or more random bytes.
         let mut s = list[r.below(list.len())].clone();
         s.truncate(s.len().saturating_sub(1) * r.below(2));
-        s.extend(r.bytes(r.pick(&[1, 1 + r.below(most)]), letters));
+        s.extend(r.bytes(r.pick(&[1, 1 + r.below(most)]), &letters));
         s.truncate(most);
         if seen.insert(s.clone()) {
             list.push(s);
@@ -305,11 +304,15 @@ fn damage(r: &Rng, kind: usize, t: &mut Table) -> usize {
     }
     let (ends, last, total) = (&mut t.ends, n - 1, t.bytes.len() as u32);
     let k = 1 + r.below(n - 2);
-    let past = r.pick(&[1, 2, 300, 70_000, MAX]);
+    let past = r.pick(&[1, 2, 256, 65_536, MAX]);
     let between = |a: u32, b: u32| a + r.below(b.saturating_sub(a) as usize) as u32;
     match kind {
-        0 => { *t = table_of(&make_list(r, 513 + r.below(60))); 0 }
-        1 => { t.bytes.resize(16_385 + r.below(600), b'z'); ends[last] = t.bytes.len() as u32; 0 }
+        0 => { *t = table_of(&make_list(r, 513 + r.below(2) * r.below(60))); 0 }
+        1 => {
+            t.bytes.resize(16_385 + r.below(2) * r.below(600), b'z');
+            ends[last] = t.bytes.len() as u32;
+            0
+        }
         2 => { ends.remove(0); 0 }
         3 => { ends[k] = ends[k - 1]; k }
         4 => {
@@ -365,15 +368,11 @@ fn random_tables(y: &mut Tally, r: &Rng) {
 
 /// Lays out words with runs of whitespace between them, and perhaps before and after.
 fn lay_out(r: &Rng, words: &[Vec<u8>], run: usize) -> Vec<u8> {
-    let mut s = r.bytes(r.below(run), b" \t\n");
-    for (i, word) in words.iter().enumerate() {
-        s.extend(r.bytes(i.min(1) * (1 + r.below(run)), b" \t\n"));
-        s.extend(word);
-    }
-    s.extend(r.bytes(r.below(run), b" \t\n"));
-    s
+    let gap = |least| r.bytes(least + r.below(run), b" \t\n");
+    let pieces = words.iter().flat_map(|word| [gap(1), word.clone()]);
+    let middle: Vec<_> = pieces.skip(1).collect();
+    [gap(0), middle.concat(), gap(0)].concat()
 }
-
 fn make_words(r: &Rng, count: usize, most: usize) -> Vec<Vec<u8>> {
     let word = |_| r.bytes(1 + r.below(most), b"aab\r");
     (0..count).map(word).collect()

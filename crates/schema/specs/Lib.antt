@@ -1,0 +1,6 @@
+pub mod Falling
+pub mod Kinds
+pub mod Relations
+pub mod RowRule
+pub mod Rows
+pub mod Views

@@ -1,0 +1,65 @@
+-- The rule of schema rows, from document 01, "Schema rows", and code 2 of its table of codes.
+use Prim.Native.Nat.{ℕ, zero, suc, _+_, _<_, _%_}
+use mathlib.Core.Path.{_≡_}
+use mathlib.Core.Logic.{_≢_}
+use mathlib.Core.Bool.{Bool, true, false, not, _&&_, _||_}
+use mathlib.Core.List.{List}
+use lib.ListN.{length}
+use lib.Dec.{ltb, eqb}
+use Rattle.schema.specs.Kinds.{none}
+use Rattle.schema.specs.Rows.{rowsOf, kindOf, aOf, bOf, shapeOf, sortOf, isElement, names, childA, childB}
+use Rattle.schema.specs.declared.Sort.{Sort}
+use Rattle.schema.specs.declared.Sort.the-variants.{Pattern, NameClass, Element, Start, Bad}
+use Rattle.schema.specs.declared.Field.{Field}
+use Rattle.schema.specs.declared.Field.the-variants.{Unused, APattern, PatternOrNone, AClass, ClassOrNone, Definition, Datatype, Text, Local}
+
+abbrev pub maxRows : ℕ
+maxRows = 512
+
+-- whether a field of row p may hold the word x, in a table beside so many strings
+abbrev pub fieldRight : ℕ → List ℕ → ℕ → Field → ℕ → Bool
+fieldRight strings s p Unused x = eqb x 0
+fieldRight strings s p APattern x = names s p APattern x
+fieldRight strings s p PatternOrNone x = eqb x none || names s p PatternOrNone x
+fieldRight strings s p AClass x = names s p AClass x
+fieldRight strings s p ClassOrNone x = eqb x none || names s p ClassOrNone x
+fieldRight strings s p Definition x = isElement (sortOf s x)
+fieldRight strings s p Datatype x = ltb x 2
+fieldRight strings s p Text x = ltb x strings
+fieldRight strings s p Local x = ltb 0 x && ltb x strings
+
+-- how often row r is a child of a row below n; both fields of a row count
+abbrev pub isRow : ℕ → ℕ → ℕ
+isRow r x = toNat (eqb x r)
+  where
+    toNat : Bool → ℕ
+    toNat true = 1
+    toNat false = 0
+
+unfoldable pub usesBelow : List ℕ → ℕ → ℕ → ℕ
+usesBelow s r zero = 0
+usesBelow s r (suc p) = usesBelow s r p + isRow r (childA s p) + isRow r (childB s p)
+
+-- a row that must have exactly one parent
+abbrev pub hasParent : Sort → Bool
+hasParent Pattern = true
+hasParent NameClass = true
+hasParent Element = false
+hasParent Start = false
+hasParent Bad = false
+
+-- code 2 at row r
+pub data RowFault (strings : ℕ) (s : List ℕ) (r : ℕ) : Type 0 where
+  no-row : rowsOf s ≡ 0 → r ≡ 0 → RowFault strings s r
+  too-many-rows : maxRows < rowsOf s → r ≡ 0 → RowFault strings s r
+  broken-length : length s % 3 ≢ 0 → r ≡ 0 → RowFault strings s r
+  bad-kind : r < rowsOf s → sortOf s r ≡ Bad → RowFault strings s r
+  bad-a : r < rowsOf s → fieldRight strings s r (shapeOf (kindOf s r) .a) (aOf s r) ≡ false → RowFault strings s r
+  bad-b : r < rowsOf s → fieldRight strings s r (shapeOf (kindOf s r) .b) (bOf s r) ≡ false → RowFault strings s r
+  wrong-parents : r < rowsOf s → hasParent (sortOf s r) ≡ true → usesBelow s r (rowsOf s) ≢ 1 → RowFault strings s r
+  start-before-last : suc r < rowsOf s → sortOf s r ≡ Start → RowFault strings s r
+  last-not-start : suc r ≡ rowsOf s → sortOf s r ≢ Start → RowFault strings s r
+
+-- the rows keep their rule
+abbrev pub RowsRight : ℕ → List ℕ → Type 0
+RowsRight strings s = (r : ℕ) → ¬ RowFault strings s r

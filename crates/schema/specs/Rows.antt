@@ -1,0 +1,95 @@
+-- A schema is a list of words, three a row: kind, a, b. What the fields of a row hold, and which rows are its children.
+use Prim.Native.Nat.{ℕ, _+_, _*_, _/_}
+use mathlib.Core.Bool.{Bool, true, false, not, cond, _&&_, _||_}
+use mathlib.Core.List.{List}
+use lib.ListN.{length, getD}
+use lib.Dec.{ltb, leb, eqb}
+use Rattle.schema.specs.Kinds.{none}
+use Rattle.schema.specs.declared.Sort.{Sort}
+use Rattle.schema.specs.declared.Sort.the-variants.{Pattern, NameClass, Element, Start, Bad}
+use Rattle.schema.specs.declared.Field.{Field}
+use Rattle.schema.specs.declared.Field.the-variants.{Unused, APattern, PatternOrNone, AClass, ClassOrNone, Definition, Datatype, Text, Local}
+use Rattle.schema.specs.declared.Shape.{Shape}
+
+abbrev pub rowsOf : List ℕ → ℕ
+rowsOf s = length s / 3
+
+-- past the end of the table every word is 0, which is no kind
+abbrev pub kindOf : List ℕ → ℕ → ℕ
+kindOf s r = getD s (r * 3) 0
+
+abbrev pub aOf : List ℕ → ℕ → ℕ
+aOf s r = getD s (r * 3 + 1) 0
+
+abbrev pub bOf : List ℕ → ℕ → ℕ
+bOf s r = getD s (r * 3 + 2) 0
+
+abbrev pub shape : Sort → Field → Field → Shape
+shape sort a b = record { sort = sort; a = a; b = b }
+
+-- the table of kinds of document 01, "Schema rows"
+unfoldable pub shapeOf : ℕ → Shape
+shapeOf k =
+    cond (leb 1 k && leb k 3) (shape Pattern Unused Unused)
+    (cond (leb 10 k && leb k 12) (shape Pattern APattern APattern)
+    (cond (eqb k 4) (shape Pattern Datatype PatternOrNone)
+    (cond (eqb k 5) (shape Pattern Datatype Text)
+    (cond (eqb k 7) (shape Pattern AClass APattern)
+    (cond (eqb k 8) (shape Pattern Definition Unused)
+    (cond (eqb k 9) (shape Pattern APattern Unused)
+    (cond (eqb k 16) (shape NameClass ClassOrNone Unused)
+    (cond (eqb k 17) (shape NameClass Text ClassOrNone)
+    (cond (eqb k 18) (shape NameClass Text Local)
+    (cond (eqb k 19) (shape NameClass AClass AClass)
+    (cond (eqb k 20) (shape Element AClass APattern)
+    (cond (eqb k 21) (shape Start APattern Unused)
+    (shape Bad Unused Unused)))))))))))))
+
+abbrev pub isPattern : Sort → Bool
+isPattern Pattern = true
+isPattern NameClass = false
+isPattern Element = false
+isPattern Start = false
+isPattern Bad = false
+
+abbrev pub isClass : Sort → Bool
+isClass Pattern = false
+isClass NameClass = true
+isClass Element = false
+isClass Start = false
+isClass Bad = false
+
+abbrev pub isElement : Sort → Bool
+isElement Pattern = false
+isElement NameClass = false
+isElement Element = true
+isElement Start = false
+isElement Bad = false
+
+abbrev pub sortOf : List ℕ → ℕ → Sort
+sortOf s r = shapeOf (kindOf s r) .sort
+
+-- whether the word x in a field of row p names a child: a smaller row of the right sort
+abbrev pub names : List ℕ → ℕ → Field → ℕ → Bool
+names s p Unused x = false
+names s p APattern x = ltb x p && isPattern (sortOf s x)
+names s p PatternOrNone x = ltb x p && isPattern (sortOf s x)
+names s p AClass x = ltb x p && isClass (sortOf s x)
+names s p ClassOrNone x = ltb x p && isClass (sortOf s x)
+names s p Definition x = false
+names s p Datatype x = false
+names s p Text x = false
+names s p Local x = false
+
+abbrev pub namesA : List ℕ → ℕ → Bool
+namesA s p = names s p (shapeOf (kindOf s p) .a) (aOf s p)
+
+abbrev pub namesB : List ℕ → ℕ → Bool
+namesB s p = names s p (shapeOf (kindOf s p) .b) (bOf s p)
+
+-- the child of a row through field a, and through field b; none where the field is bad or holds no child
+abbrev pub childA : List ℕ → ℕ → ℕ
+childA s p = cond (namesA s p) (aOf s p) none
+
+abbrev pub childB : List ℕ → ℕ → ℕ
+childB s p = cond (namesB s p) (bOf s p) none

@@ -1,0 +1,184 @@
+// Schema rows: what a row of each kind holds, its children, and the rule of rows with code 2.
+use tables::Checked;
+ghost use mathlib.Core.Path.{_≡_};
+ghost use Rattle.schema.specs.Rows.{kindOf, aOf, bOf, shape, shapeOf, sortOf, names, childA, childB, isPattern, isClass, isElement};
+
+// Document 01's `-`: no row.
+pub const NONE: u32 = 4294967295;
+
+// What a row is.
+pub enum Sort {
+    Pattern,
+    NameClass,
+    Element,
+    Start,
+    Bad,
+}
+
+// What a field of a row holds: a pattern or a name class, at a smaller row; such a row or none; the row of a definition; a datatype; the number of a string, or of a local name.
+pub enum Field {
+    Unused,
+    APattern,
+    PatternOrNone,
+    AClass,
+    ClassOrNone,
+    Definition,
+    Datatype,
+    Text,
+    Local,
+}
+
+// What a row of a kind is, and what its fields hold.
+pub struct Shape {
+    pub sort: Sort,
+    pub a: Field,
+    pub b: Field,
+}
+
+pub fn kind(schema: &[u32], row: u32) -> u32
+    ensures { λ r. ⌜ r ≡ kindOf (now (schema .entry)) row ⌝ }
+{
+    tables::word(schema, row as usize * 3)
+}
+
+pub fn field_a(schema: &[u32], row: u32) -> u32
+    ensures { λ r. ⌜ r ≡ aOf (now (schema .entry)) row ⌝ }
+{
+    tables::word(schema, row as usize * 3 + 1)
+}
+
+pub fn field_b(schema: &[u32], row: u32) -> u32
+    ensures { λ r. ⌜ r ≡ bOf (now (schema .entry)) row ⌝ }
+{
+    tables::word(schema, row as usize * 3 + 2)
+}
+
+fn made(sort: Sort, a: Field, b: Field) -> Shape
+    ensures { λ r. ⌜ r ≡ shape sort a b ⌝ }
+{
+    Shape { sort, a, b }
+}
+
+// What a row of a kind is, and what its fields hold.
+pub fn shape_of(kind: u32) -> Shape
+    ensures { λ r. ⌜ r ≡ shapeOf kind ⌝ }
+{
+    match kind {
+        1..=3 => made(Sort::Pattern, Field::Unused, Field::Unused),
+        10..=12 => made(Sort::Pattern, Field::APattern, Field::APattern),
+        4 => made(Sort::Pattern, Field::Datatype, Field::PatternOrNone),
+        5 => made(Sort::Pattern, Field::Datatype, Field::Text),
+        7 => made(Sort::Pattern, Field::AClass, Field::APattern),
+        8 => made(Sort::Pattern, Field::Definition, Field::Unused),
+        9 => made(Sort::Pattern, Field::APattern, Field::Unused),
+        16 => made(Sort::NameClass, Field::ClassOrNone, Field::Unused),
+        17 => made(Sort::NameClass, Field::Text, Field::ClassOrNone),
+        18 => made(Sort::NameClass, Field::Text, Field::Local),
+        19 => made(Sort::NameClass, Field::AClass, Field::AClass),
+        20 => made(Sort::Element, Field::AClass, Field::APattern),
+        21 => made(Sort::Start, Field::APattern, Field::Unused),
+        _ => made(Sort::Bad, Field::Unused, Field::Unused),
+    }
+}
+
+fn sort_at(schema: &[u32], row: u32) -> Sort
+    ensures { λ r. ⌜ r ≡ sortOf (now (schema .entry)) row ⌝ }
+{
+    let shape = shape_of(kind(schema, row));
+    shape.sort
+}
+
+fn is_pattern(sort: Sort) -> bool
+    ensures { λ r. ⌜ r ≡ isPattern sort ⌝ }
+{
+    match sort {
+        Sort::Pattern => true,
+        Sort::NameClass => false,
+        Sort::Element => false,
+        Sort::Start => false,
+        Sort::Bad => false,
+    }
+}
+
+fn is_class(sort: Sort) -> bool
+    ensures { λ r. ⌜ r ≡ isClass sort ⌝ }
+{
+    match sort {
+        Sort::Pattern => false,
+        Sort::NameClass => true,
+        Sort::Element => false,
+        Sort::Start => false,
+        Sort::Bad => false,
+    }
+}
+
+fn is_element(sort: Sort) -> bool
+    ensures { λ r. ⌜ r ≡ isElement sort ⌝ }
+{
+    match sort {
+        Sort::Pattern => false,
+        Sort::NameClass => false,
+        Sort::Element => true,
+        Sort::Start => false,
+        Sort::Bad => false,
+    }
+}
+
+// Whether x is a smaller row than p, and a pattern.
+fn pattern_below(schema: &[u32], p: u32, x: u32) -> bool
+    ensures { λ r. ⌜ r ≡ names (now (schema .entry)) p Field.APattern x ⌝ }
+{
+    if x < p {
+        is_pattern(sort_at(schema, x))
+    } else {
+        false
+    }
+}
+
+// Whether x is a smaller row than p, and a name class.
+fn class_below(schema: &[u32], p: u32, x: u32) -> bool
+    ensures { λ r. ⌜ r ≡ names (now (schema .entry)) p Field.AClass x ⌝ }
+{
+    if x < p {
+        is_class(sort_at(schema, x))
+    } else {
+        false
+    }
+}
+
+// Whether the word x in a field of row p names a child.
+fn names_child(schema: &[u32], p: u32, field: Field, x: u32) -> bool
+    ensures { λ r. ⌜ r ≡ names (now (schema .entry)) p field x ⌝ }
+{
+    match field {
+        Field::Unused => false,
+        Field::APattern => pattern_below(schema, p, x),
+        Field::PatternOrNone => pattern_below(schema, p, x),
+        Field::AClass => class_below(schema, p, x),
+        Field::ClassOrNone => class_below(schema, p, x),
+        Field::Definition => false,
+        Field::Datatype => false,
+        Field::Text => false,
+        Field::Local => false,
+    }
+}
+
+// The child through field a, a smaller row, or NONE.
+pub fn child_a(schema: &[u32], p: u32) -> u32
+    ensures { λ r. ⌜ r ≡ childA (now (schema .entry)) p ⌝ }
+{
+    let shape = shape_of(kind(schema, p));
+    let field = shape.a;
+    let a = field_a(schema, p);
+    if names_child(schema, p, field, a) { a } else { NONE }
+}
+
+// The child through field b, a smaller row, or NONE.
+pub fn child_b(schema: &[u32], p: u32) -> u32
+    ensures { λ r. ⌜ r ≡ childB (now (schema .entry)) p ⌝ }
+{
+    let shape = shape_of(kind(schema, p));
+    let field = shape.b;
+    let b = field_b(schema, p);
+    if names_child(schema, p, field, b) { b } else { NONE }
+}
