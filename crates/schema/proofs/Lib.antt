@@ -1,3 +1,5 @@
 pub mod Children
 pub mod Falling
+pub mod RowLaws
 pub mod Shapes
+pub mod Uses

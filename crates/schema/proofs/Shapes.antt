@@ -29,5 +29,18 @@ pub shape-bad : (k : ℕ) → (k < 1) ⊎ (3 < k) → (k < 10) ⊎ (12 < k) → 
 unfolding shapeOf
 shape-bad k p q o =
     let o₁ = o .0 .0 .0 .0 .0 .0 in
-    rw (outside 1 3 k p, outside 10 12 k q, ne-eqb k 4 (o₁ .0 .0 .0 .0 .1), ne-eqb k 5 (o₁ .0 .0 .0 .1), ne-eqb k 7 (o₁ .0 .0 .1), ne-eqb k 8 (o₁ .0 .1), ne-eqb k 9 (o₁ .1),
-    ne-eqb k 16 (o .0 .0 .0 .0 .0 .1), ne-eqb k 17 (o .0 .0 .0 .0 .1), ne-eqb k 18 (o .0 .0 .0 .1), ne-eqb k 19 (o .0 .0 .1), ne-eqb k 20 (o .0 .1), ne-eqb k 21 (o .1))
+    rw (
+      outside 1 3 k p,
+      outside 10 12 k q,
+      ne-eqb k 4 (o₁ .0 .0 .0 .0 .1),
+      ne-eqb k 5 (o₁ .0 .0 .0 .1),
+      ne-eqb k 7 (o₁ .0 .0 .1),
+      ne-eqb k 8 (o₁ .0 .1),
+      ne-eqb k 9 (o₁ .1),
+      ne-eqb k 16 (o .0 .0 .0 .0 .0 .1),
+      ne-eqb k 17 (o .0 .0 .0 .0 .1),
+      ne-eqb k 18 (o .0 .0 .0 .1),
+      ne-eqb k 19 (o .0 .0 .1),
+      ne-eqb k 20 (o .0 .1),
+      ne-eqb k 21 (o .1),
+    )

@@ -2,7 +2,7 @@
 use Prim.Native.Nat.{ℕ, zero, suc, _+_, _<_, _%_}
 use mathlib.Core.Path.{_≡_}
 use mathlib.Core.Logic.{_≢_}
-use mathlib.Core.Bool.{Bool, true, false, not, _&&_, _||_}
+use mathlib.Core.Bool.{Bool, true, false, not, cond, _&&_, _||_}
 use mathlib.Core.List.{List}
 use lib.ListN.{length}
 use lib.Dec.{ltb, eqb}
@@ -30,35 +30,40 @@ fieldRight strings s p Local x = ltb 0 x && ltb x strings
 
 -- how often row r is a child of a row below n; both fields of a row count
 abbrev pub isRow : ℕ → ℕ → ℕ
-isRow r x = toNat (eqb x r)
-  where
-    toNat : Bool → ℕ
-    toNat true = 1
-    toNat false = 0
+isRow r x = cond (eqb x r) 1 0
 
 unfoldable pub usesBelow : List ℕ → ℕ → ℕ → ℕ
 usesBelow s r zero = 0
 usesBelow s r (suc p) = usesBelow s r p + isRow r (childA s p) + isRow r (childB s p)
 
--- a row that must have exactly one parent
-abbrev pub hasParent : Sort → Bool
-hasParent Pattern = true
-hasParent NameClass = true
-hasParent Element = false
-hasParent Start = false
-hasParent Bad = false
+-- whether a row of a sort may have so many parents, and be the last row: a pattern or name class has exactly one parent, start is the last row and no other is
+abbrev pub sortRight : Sort → ℕ → Bool → Bool
+sortRight Pattern uses last = eqb uses 1 && not last
+sortRight NameClass uses last = eqb uses 1 && not last
+sortRight Element uses last = not last
+sortRight Start uses last = last
+sortRight Bad uses last = false
+
+-- whether row r keeps its rule where it is used so often: both fields, its parents, its place
+abbrev pub rowRight : ℕ → List ℕ → ℕ → ℕ → Bool
+rowRight strings s r uses =
+    fieldRight strings s r (shapeOf (kindOf s r) .a) (aOf s r)
+    && fieldRight strings s r (shapeOf (kindOf s r) .b) (bOf s r)
+    && sortRight (sortOf s r) uses (eqb (r + 1) (rowsOf s))
+
+abbrev pub WrongRow : ℕ → List ℕ → ℕ → Type 0
+WrongRow strings s r = (r < rowsOf s) × (rowRight strings s r (usesBelow s r (rowsOf s)) ≡ false)
+
+-- the number of words and rows
+pub data SizeFault (s : List ℕ) (r : ℕ) : Type 0 where
+  no-row : rowsOf s ≡ 0 → r ≡ 0 → SizeFault s r
+  too-many-rows : maxRows < rowsOf s → r ≡ 0 → SizeFault s r
+  broken-length : length s % 3 ≢ 0 → r ≡ 0 → SizeFault s r
 
 -- code 2 at row r
 pub data RowFault (strings : ℕ) (s : List ℕ) (r : ℕ) : Type 0 where
-  no-row : rowsOf s ≡ 0 → r ≡ 0 → RowFault strings s r
-  too-many-rows : maxRows < rowsOf s → r ≡ 0 → RowFault strings s r
-  broken-length : length s % 3 ≢ 0 → r ≡ 0 → RowFault strings s r
-  bad-kind : r < rowsOf s → sortOf s r ≡ Bad → RowFault strings s r
-  bad-a : r < rowsOf s → fieldRight strings s r (shapeOf (kindOf s r) .a) (aOf s r) ≡ false → RowFault strings s r
-  bad-b : r < rowsOf s → fieldRight strings s r (shapeOf (kindOf s r) .b) (bOf s r) ≡ false → RowFault strings s r
-  wrong-parents : r < rowsOf s → hasParent (sortOf s r) ≡ true → usesBelow s r (rowsOf s) ≢ 1 → RowFault strings s r
-  start-before-last : suc r < rowsOf s → sortOf s r ≡ Start → RowFault strings s r
-  last-not-start : suc r ≡ rowsOf s → sortOf s r ≢ Start → RowFault strings s r
+  bad-size : SizeFault s r → RowFault strings s r
+  bad-row : WrongRow strings s r → RowFault strings s r
 
 -- the rows keep their rule
 abbrev pub RowsRight : ℕ → List ℕ → Type 0

@@ -1,97 +1,72 @@
+-- Each field by its case.
 use mathlib.Core.Path.{_∙_}
 use borrow.Author.Needs.{needs}
 use Rattle.schema.proofs.names_child.Statement.{statement}
 use Rattle.schema.proofs.names_child.Tie as tie
-use Rattle.schema.proofs.names_child.Reads as reads
-use Rattle.schema.proofs.names_child.Lts as lts
-use Rattle.schema.proofs.class_below.Reads as class-below-reads
-use Rattle.schema.proofs.pattern_below.Reads as pattern-below-reads
 
--- src/lib.rt:120:26
 enum-told : tie.Need-enum-told
 enum-told c = search needs
 
--- src/lib.rt:121:28
 enum-told-2 : tie.Need-enum-told-2
 enum-told-2 c = search needs
 
--- src/lib.rt:121:28
 pattern-below-requires : tie.Need-pattern-below-requires
 pattern-below-requires c κs = search needs
 
--- src/lib.rt:122:33
 enum-told-3 : tie.Need-enum-told-3
 enum-told-3 c = search needs
 
--- src/lib.rt:122:33
 pattern-below-requires-2 : tie.Need-pattern-below-requires-2
 pattern-below-requires-2 c κs = search needs
 
--- src/lib.rt:123:26
 enum-told-4 : tie.Need-enum-told-4
 enum-told-4 c = search needs
 
--- src/lib.rt:123:26
 class-below-requires : tie.Need-class-below-requires
 class-below-requires c κs = search needs
 
--- src/lib.rt:124:31
 enum-told-5 : tie.Need-enum-told-5
 enum-told-5 c = search needs
 
--- src/lib.rt:124:31
 class-below-requires-2 : tie.Need-class-below-requires-2
 class-below-requires-2 c κs = search needs
 
--- src/lib.rt:125:30
 enum-told-6 : tie.Need-enum-told-6
 enum-told-6 c = search needs
 
--- src/lib.rt:126:28
 enum-told-7 : tie.Need-enum-told-7
 enum-told-7 c = search needs
 
--- src/lib.rt:127:24
 enum-told-8 : tie.Need-enum-told-8
 enum-told-8 c = search needs
 
--- src/lib.rt:128:25
 enum-told-9 : tie.Need-enum-told-9
 enum-told-9 c = search needs
 
--- src/lib.rt:116:1
 returns : tie.Need-returns
 returns c = search needs
 
--- src/lib.rt:116:1
 returns-2 : tie.Need-returns-2
 returns-2 c = c .pattern-below .ensures ∙ rw (c .before .enum-told2 .given .1)
 
--- src/lib.rt:116:1
 returns-3 : tie.Need-returns-3
 returns-3 c = c .pattern-below2 .ensures ∙ rw (c .before .enum-told3 .given .1)
 
--- src/lib.rt:116:1
 returns-4 : tie.Need-returns-4
 returns-4 c = c .class-below .ensures ∙ rw (c .before .enum-told4 .given .1)
 
--- src/lib.rt:116:1
 returns-5 : tie.Need-returns-5
 returns-5 c = c .class-below2 .ensures ∙ rw (c .before .enum-told5 .given .1)
 
--- src/lib.rt:116:1
 returns-6 : tie.Need-returns-6
 returns-6 c = search needs
 
--- src/lib.rt:116:1
 returns-7 : tie.Need-returns-7
 returns-7 c = search needs
 
--- src/lib.rt:116:1
 returns-8 : tie.Need-returns-8
 returns-8 c = search needs
 
--- src/lib.rt:116:1
 returns-9 : tie.Need-returns-9
 returns-9 c = search needs
 

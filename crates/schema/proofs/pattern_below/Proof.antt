@@ -1,26 +1,19 @@
-use borrow.Author.Tests.{lt-ltb, le-ltb}
+-- A smaller row that is a pattern.
 use mathlib.Core.Path.{_∙_}
 use borrow.Author.Needs.{needs}
+use borrow.Author.Tests.{lt-ltb, le-ltb}
 use Rattle.schema.proofs.pattern_below.Statement.{statement}
 use Rattle.schema.proofs.pattern_below.Tie as tie
-use Rattle.schema.proofs.pattern_below.Reads as reads
-use Rattle.schema.proofs.pattern_below.Lts as lts
-use Rattle.schema.proofs.is_pattern.Reads as is-pattern-reads
-use Rattle.schema.proofs.sort_at.Reads as sort-at-reads
 
--- src/lib.rt:132:20
 sort-at-requires : tie.Need-sort-at-requires
 sort-at-requires c κs = search needs
 
--- src/lib.rt:132:9
 is-pattern-requires : tie.Need-is-pattern-requires
 is-pattern-requires c κs = search needs
 
--- src/lib.rt:128:1
 returns : tie.Need-returns
 returns c = c .is-pattern .ensures ∙ rw (lt-ltb _ _ (c .before .before .if1 .taken), c .before .sort-at .ensures)
 
--- src/lib.rt:128:1
 returns-2 : tie.Need-returns-2
 returns-2 c = rw (le-ltb _ _ (c .if1 .left))
 

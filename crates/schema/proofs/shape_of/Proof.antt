@@ -1,149 +1,116 @@
-use Rattle.schema.proofs.Shapes.{past-9, shape-bad}
-use lib.Dec.{lit≤}
-use native.Mathlib.Nat.{le-trans, le-of-suc-le-suc}
+-- Each arm of the match gives its kind, and the ranges their bounds; what is left is no kind.
+use mathlib.Core.Logic.{_⊎_, inl, ⊎-elim, inr}
+use mathlib.Core.Path.{_≡_, sym, _∙_}
 use Prim.Native.Nat.{_<_, _≤_}
-use mathlib.Core.Logic.{_⊎_, inl, ⊎-elim}
-use mathlib.Core.Path.{_≡_, sym}
-use Rattle.schema.proofs.Shapes.{inside, outside}
-use Rattle.schema.specs.Rows.{shapeOf}
+use native.Mathlib.Nat.{le-trans, le-of-suc-le-suc}
 use native.Mathlib.Omega.{arith}
-use mathlib.Core.Logic.{inr}
-use mathlib.Core.Path.{_∙_}
+use lib.Dec.{lit≤}
 use borrow.Author.Needs.{needs}
+use Rattle.schema.proofs.Shapes.{past-9, shape-bad, inside, outside}
+use Rattle.schema.specs.Rows.{shapeOf}
 use Rattle.schema.proofs.shape_of.Statement.{statement}
 use Rattle.schema.proofs.shape_of.Tie as tie
-use Rattle.schema.proofs.shape_of.Reads as reads
-use Rattle.schema.proofs.shape_of.Lts as lts
-use Rattle.schema.proofs.made.Reads as made-reads
 
--- src/lib.rt:69:14
 made-requires : tie.Need-made-requires
 made-requires c κs = search needs
 
--- src/lib.rt:70:14
 made-requires-2 : tie.Need-made-requires-2
 made-requires-2 c κs = search needs
 
--- src/lib.rt:71:14
 made-requires-3 : tie.Need-made-requires-3
 made-requires-3 c κs = search needs
 
--- src/lib.rt:72:14
 made-requires-4 : tie.Need-made-requires-4
 made-requires-4 c κs = search needs
 
--- src/lib.rt:73:14
 made-requires-5 : tie.Need-made-requires-5
 made-requires-5 c κs = search needs
 
--- src/lib.rt:74:15
 made-requires-6 : tie.Need-made-requires-6
 made-requires-6 c κs = search needs
 
--- src/lib.rt:75:15
 made-requires-7 : tie.Need-made-requires-7
 made-requires-7 c κs = search needs
 
--- src/lib.rt:76:15
 made-requires-8 : tie.Need-made-requires-8
 made-requires-8 c κs = search needs
 
--- src/lib.rt:77:15
 made-requires-9 : tie.Need-made-requires-9
 made-requires-9 c κs = search needs
 
--- src/lib.rt:78:15
 made-requires-10 : tie.Need-made-requires-10
 made-requires-10 c κs = search needs
 
--- src/lib.rt:79:15
 made-requires-11 : tie.Need-made-requires-11
 made-requires-11 c κs = search needs
 
--- src/lib.rt:67:18
 made-requires-12 : tie.Need-made-requires-12
 made-requires-12 c κs = search needs
 
--- src/lib.rt:68:20
 made-requires-13 : tie.Need-made-requires-13
 made-requires-13 c κs = search needs
 
--- src/lib.rt:80:14
 made-requires-14 : tie.Need-made-requires-14
 made-requires-14 c κs = search needs
 
--- src/lib.rt:63:1
 returns : tie.Need-returns
 unfolding shapeOf
 returns c = c .made .ensures ∙ rw (c .before .match .keys1)
 
--- src/lib.rt:63:1
 returns-2 : tie.Need-returns-2
 unfolding shapeOf
 returns-2 c = c .made2 .ensures ∙ rw (c .before .match .keys2)
 
--- src/lib.rt:63:1
 returns-3 : tie.Need-returns-3
 unfolding shapeOf
 returns-3 c = c .made3 .ensures ∙ rw (c .before .match .keys3)
 
--- src/lib.rt:63:1
 returns-4 : tie.Need-returns-4
 unfolding shapeOf
 returns-4 c = c .made4 .ensures ∙ rw (c .before .match .keys4)
 
--- src/lib.rt:63:1
 returns-5 : tie.Need-returns-5
 unfolding shapeOf
 returns-5 c = c .made5 .ensures ∙ rw (c .before .match .keys5)
 
--- src/lib.rt:63:1
 returns-6 : tie.Need-returns-6
 unfolding shapeOf
 returns-6 c = c .made6 .ensures ∙ rw (c .before .match .keys6)
 
--- src/lib.rt:63:1
 returns-7 : tie.Need-returns-7
 unfolding shapeOf
 returns-7 c = c .made7 .ensures ∙ rw (c .before .match .keys7)
 
--- src/lib.rt:63:1
 returns-8 : tie.Need-returns-8
 unfolding shapeOf
 returns-8 c = c .made8 .ensures ∙ rw (c .before .match .keys8)
 
--- src/lib.rt:63:1
 returns-9 : tie.Need-returns-9
 unfolding shapeOf
 returns-9 c = c .made9 .ensures ∙ rw (c .before .match .keys9)
 
--- src/lib.rt:63:1
 returns-10 : tie.Need-returns-10
 unfolding shapeOf
 returns-10 c = c .made10 .ensures ∙ rw (c .before .match .keys10)
 
--- src/lib.rt:63:1
 returns-11 : tie.Need-returns-11
 unfolding shapeOf
 returns-11 c = c .made11 .ensures ∙ rw (c .before .match .keys11)
 
--- src/lib.rt:63:1
 returns-12 : tie.Need-returns-12
 unfolding shapeOf
 returns-12 c = c .made12 .ensures ∙ rw (inside 1 3 (c .before .before .before .before .args .kind) (omega arith) (omega arith))
 
--- src/lib.rt:63:1
 returns-13 : tie.Need-returns-13
 unfolding shapeOf
-returns-13 c = 
+returns-13 c =
     let k = c .before .before .before .before .before .before .args .kind in
     let m = c .before .before .before .before .before .match .rest .0 .0 .0 .0 .0 .0 in
     let low : 10 ≤ k = past-9 k (c .before .before .if3 .left) (m .0 .0 .1) (m .0 .1) (m .1) in
     c .made13 .ensures ∙ rw (outside 1 3 k (inr (le-trans (lit≤ tt) low)), inside 10 12 k low (le-of-suc-le-suc (c .before .if4 .taken)))
 
--- src/lib.rt:63:1
 returns-14 : tie.Need-returns-14
-returns-14 c = 
+returns-14 c =
     let k = c .before .before .before .args .kind in
     let bad : (k < 1) ⊎ (3 < k) → (k < 10) ⊎ (12 < k) → c .made14 .result ≡ shapeOf k = λ p q. c .made14 .ensures ∙ sym (shape-bad k p q (c .before .before .match .rest)) in
     ⊎-elim (λ w. bad (inl (w .taken)) (inl (le-trans (w .taken) (lit≤ tt))))
