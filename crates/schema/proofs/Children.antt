@@ -3,11 +3,12 @@ use mathlib.Core.Path.{_≡_, refl, sym, _∙_, ap}
 use mathlib.Core.Bool.{Bool, true, false, _&&_, true≢false, false≢true}
 use mathlib.Core.Logic.{_⊎_, inl, inr}
 use mathlib.Core.List.{List}
-use Prim.Native.Nat.{ℕ, _≤_, _<_}
+use Prim.Native.Nat.{ℕ, _%_, _≤_, _<_}
 use native.Mathlib.Omega.{arith}
 use lib.Dec.{ltb}
+use lib.ListN.{length, List·getD-eq-default}
 use borrow.Author.Tests.{ltb-true}
-use Rattle.schema.specs.Rows.{kindOf, aOf, bOf, shapeOf, names, namesA, namesB, childA, childB, isPattern, isClass, sortOf}
+use Rattle.schema.specs.Rows.{rowsOf, kindOf, aOf, bOf, shapeOf, names, namesA, namesB, childA, childB, isPattern, isClass, sortOf}
 use Rattle.schema.specs.Kinds.{none}
 use Rattle.schema.specs.Relations.{Child, by-a, by-b}
 use Rattle.schema.specs.declared.Field.{Field}
@@ -60,3 +61,22 @@ module _ (s : List ℕ) (p : ℕ) (low : p ≤ none) where
       go : (b : Bool) → namesB s p ≡ b → Child s p (childB s p)
       go true e = by-b e (rw e)
       go false e = let l : none < p = rw e at h in absurd (omega arith)
+
+-- a child is a smaller row or none
+pub child-a-row : (s : List ℕ) (p : ℕ) → (childA s p < p) ⊎ (childA s p ≡ none)
+child-a-row s p = go (namesA s p) refl
+  where
+    go : (b : Bool) → namesA s p ≡ b → (childA s p < p) ⊎ (childA s p ≡ none)
+    go true e = inl (rw e (names-less s p (shapeOf (kindOf s p) .a) (aOf s p) e))
+    go false e = inr (rw e)
+
+pub child-b-row : (s : List ℕ) (p : ℕ) → (childB s p < p) ⊎ (childB s p ≡ none)
+child-b-row s p = go (namesB s p) refl
+  where
+    go : (b : Bool) → namesB s p ≡ b → (childB s p < p) ⊎ (childB s p ≡ none)
+    go true e = inl (rw e (names-less s p (shapeOf (kindOf s p) .b) (bOf s p) e))
+    go false e = inr (rw e)
+
+-- past a table of whole rows there is no row
+pub kind-past : (s : List ℕ) (r : ℕ) → length s % 3 ≡ 0 → rowsOf s ≤ r → kindOf s r ≡ 0
+kind-past s r w h = List·getD-eq-default s 0 (omega arith)

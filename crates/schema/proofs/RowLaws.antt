@@ -5,13 +5,14 @@ use mathlib.Core.Bool.{Bool, true, false, _&&_}
 use mathlib.Core.List.{List}
 use Prim.Native.Nat.{ℕ, _%_, _≤_, _<_}
 use native.Mathlib.Omega.{arith}
+use native.Mathlib.Decide.{ℕ-discrete}
 use lib.ListN.{length, getD}
 use Rattle.tables.specs.Answers.{Clear}
 use Rattle.tables.proofs.Numbers.{not-less}
 use Rattle.schema.specs.Rows.{rowsOf, kindOf, aOf, bOf, shapeOf}
 use Rattle.schema.specs.Counts.{Counts}
 use Rattle.schema.specs.declared.Shape.{Shape}
-use Rattle.schema.specs.RowRule.{maxRows, fieldRight, usesBelow, rowRight, WrongRow, SizeFault, no-row, too-many-rows, broken-length, RowFault, bad-size, bad-row}
+use Rattle.schema.specs.RowRule.{maxRows, fieldRight, usesBelow, rowRight, WrongRow, SizeFault, SizeRight, no-row, too-many-rows, broken-length, RowFault, bad-size, bad-row}
 
 pub size-right : {s : List ℕ} → rowsOf s ≢ 0 → rowsOf s ≤ maxRows → length s % 3 ≡ 0 → (r : ℕ) → ¬ SizeFault s r
 size-right some few whole r (no-row e z) = some e
@@ -30,9 +31,16 @@ first-bad-size {strings} {s} {place} f clear = (bad-size f, λ k h. absurd (befo
     before : (k : ℕ) → k < place → ⊥
     before k h = omega (arith, zero-place f)
 
-module _ {s : List ℕ} (right : (r : ℕ) → ¬ SizeFault s r) where
+module _ {s : List ℕ} (right : SizeRight s) where
   pub few-rows : rowsOf s ≤ maxRows
   few-rows = not-less (λ h. right 0 (too-many-rows h refl))
+
+  pub whole-rows : length s % 3 ≡ 0
+  whole-rows = go (ℕ-discrete (length s % 3) 0)
+    where
+      go : Dec (length s % 3 ≡ 0) → length s % 3 ≡ 0
+      go (yes e) = e
+      go (no f) = absurd (right 0 (broken-length f refl))
 
   -- with the right size only rows can be wrong
   pub only-rows : {strings : ℕ} (r : ℕ) → RowFault strings s r → WrongRow strings s r

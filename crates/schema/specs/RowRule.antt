@@ -60,6 +60,10 @@ pub data SizeFault (s : List ℕ) (r : ℕ) : Type 0 where
   too-many-rows : maxRows < rowsOf s → r ≡ 0 → SizeFault s r
   broken-length : length s % 3 ≢ 0 → r ≡ 0 → SizeFault s r
 
+-- a table of 1 to maxRows whole rows
+abbrev pub SizeRight : List ℕ → Type 0
+SizeRight s = (r : ℕ) → ¬ SizeFault s r
+
 -- code 2 at row r
 pub data RowFault (strings : ℕ) (s : List ℕ) (r : ℕ) : Type 0 where
   bad-size : SizeFault s r → RowFault strings s r
