@@ -1,25 +1,32 @@
 -- How an answer is handed to C: one number, or a copy in a lent output.
 use Prim.Native.Nat.{ℕ, _+_, _*_}
 use mathlib.Core.Path.{_≡_}
-use mathlib.Core.List.{List}
+use mathlib.Core.List.{List, [], _∷_}
 use lib.ListN.{length}
 use denote.Ref.{RefT, now}
 use Rattle.tables.specs.Answers.{Finds}
 use Rattle.tables.specs.Outputs.{laid}
 use Rattle.tables.specs.declared.Checked.{Checked}
-use Rattle.tables.specs.declared.Checked.the-variants.{Fine, Fault}
 use Rattle.strings.specs.Text.{StringText}
+use Rattle.tables.specs.Refusals.{refusalOf, Passes}
+use Rattle.tables.specs.declared.Verdict.{Verdict}
+use Rattle.tables.specs.declared.Verdict.the-variants.{Passed, Refused}
+use Rattle.relaxng.specs.Promises.{SchemaRefusal, NameInClass, LeastCommonName}
+use Rattle.relaxng.specs.declared.Membership.{Membership}
+use Rattle.relaxng.specs.declared.Membership.the-variants.{Yes, No, NotJudged}
+use Rattle.relaxng.specs.declared.CommonName.{CommonName}
+use Rattle.relaxng.specs.declared.CommonName.the-variants.{Least, None, NotSought}
 
--- 0 where nothing is refused, and otherwise the code times 2^32 plus the place
-abbrev pub packed : ℕ → Checked → ℕ
-packed code Fine = 0
-packed code (Fault place) = code * 4294967296 + place
+-- a verdict as one number: 0 where nothing is refused, and otherwise the code times 2^32 plus the place
+abbrev pub packedVerdict : Verdict → ℕ
+packedVerdict Passed = 0
+packedVerdict (Refused code place) = code * 4294967296 + place
 
 -- the packed answer of the check for P, which has this code
 pub record PackedCheck (code : ℕ) (P : ℕ → Type 0) (r : ℕ) : Type 0 where
   pub answer : Checked
   pub finds : Finds P answer
-  pub number : r ≡ packed code answer
+  pub number : r ≡ packedVerdict (refusalOf code answer)
 
 -- the text of string k is laid at the front of the output, and its length returned
 pub record CopiedText (bytes : RefT (List ℕ)) (ends : List ℕ) (k : ℕ) (out : List ℕ) (left : List ℕ) (r : ℕ) : Type 0 where
@@ -27,3 +34,36 @@ pub record CopiedText (bytes : RefT (List ℕ)) (ends : List ℕ) (k : ℕ) (out
   pub text : StringText bytes ends k part
   pub copy : left ≡ laid (length out) (now part)
   pub size : r ≡ length (now part)
+
+-- an answer on membership: the refusal, or 1 for yes and 0 for no
+abbrev pub packedMembership : Membership → ℕ
+packedMembership Yes = 1
+packedMembership No = 0
+packedMembership (NotJudged code place) = code * 4294967296 + place
+
+-- an answer on a common name: the refusal, or 1 where there is one and 0 where there is none; and the words of the name
+abbrev pub packedName : CommonName → ℕ
+packedName (Least namespace local) = 1
+packedName None = 0
+packedName (NotSought code place) = code * 4294967296 + place
+
+abbrev pub nameWords : CommonName → List ℕ
+nameWords (Least namespace local) = namespace ∷ local ∷ []
+nameWords None = []
+nameWords (NotSought code place) = []
+
+pub record PackedSchema (bytes ends s : List ℕ) (r : ℕ) : Type 0 where
+  pub answer : Verdict
+  pub refusal : SchemaRefusal bytes ends s Passes answer
+  pub number : r ≡ packedVerdict answer
+
+pub record PackedMember (bytes ends s : List ℕ) (class namespace local : ℕ) (r : ℕ) : Type 0 where
+  pub answer : Membership
+  pub promise : NameInClass bytes ends s class namespace local answer
+  pub number : r ≡ packedMembership answer
+
+pub record PackedLeast (bytes ends s : List ℕ) (first second : ℕ) (out left : List ℕ) (r : ℕ) : Type 0 where
+  pub answer : CommonName
+  pub promise : LeastCommonName bytes ends s first second answer
+  pub number : r ≡ packedName answer
+  pub words : left ≡ laid (length out) (nameWords answer)

@@ -1,26 +1,21 @@
 // The calls that programs in C or Rust make, the tests among them: numbers and slices alone.
-use tables::Checked;
+use relaxng::CommonName;
+use relaxng::Membership;
+use tables::Verdict;
 ghost use mathlib.Core.Path.{_≡_};
+ghost use Prim.Native.Nat.{_+_, _*_};
+ghost use lib.ListN.{length};
+ghost use Rattle.tables.specs.Outputs.{laid};
 ghost use Rattle.tables.specs.Answers.{Decides};
 ghost use Rattle.strings.specs.Strings.{StringFault};
 ghost use Rattle.datatypes.specs.Whitespace.{whitespace, stringEqual, tokenEqual};
-ghost use Rattle.capi.specs.Packed.{packed, PackedCheck, CopiedText};
-
-// A check's answer as one number.
-fn pack(code: u32, c: Checked) -> u64
-    ensures { λ r. ⌜ r ≡ packed code c ⌝ }
-{
-    match c {
-        Checked::Fine => 0,
-        Checked::Fault(place) => (code as u64) * 4294967296 + place as u64,
-    }
-}
+ghost use Rattle.capi.specs.Packed.{packedVerdict, packedMembership, packedName, nameWords, PackedCheck, CopiedText, PackedSchema, PackedMember, PackedLeast};
 
 #[no_mangle]
 pub extern "C" fn farshavan_check_strings(bytes: &[u8], ends: &[u32]) -> u64
     ensures { λ r. ⌜ PackedCheck 1 (StringFault (now (bytes .entry)) (now (ends .entry))) r ⌝ }
 {
-    pack(1, strings::check_strings(bytes, ends))
+    pack_verdict(tables::refusal(1, strings::check_strings(bytes, ends)))
 }
 
 // The text is copied, since an exported function returns no part.
@@ -52,4 +47,91 @@ pub extern "C" fn farshavan_same_token(a: &[u8], b: &[u8]) -> bool
     ensures { λ r. ⌜ Decides (tokenEqual (now (a .entry)) (now (b .entry))) r ⌝ }
 {
     datatypes::same_token(a, b)
+}
+
+// A code and a place as one number.
+fn pack_refusal(code: u32, place: u32) -> u64
+    ensures { λ r. ⌜ r ≡ code * 4294967296 + place ⌝ }
+{
+    (code as u64) * 4294967296 + place as u64
+}
+
+fn pack_verdict(verdict: Verdict) -> u64
+    ensures { λ r. ⌜ r ≡ packedVerdict verdict ⌝ }
+{
+    match verdict {
+        Verdict::Passed => 0,
+        Verdict::Refused(code, place) => pack_refusal(code, place),
+    }
+}
+
+fn pack_membership(answer: Membership) -> u64
+    ensures { λ r. ⌜ r ≡ packedMembership answer ⌝ }
+{
+    match answer {
+        Membership::Yes => 1,
+        Membership::No => 0,
+        Membership::NotJudged(code, place) => pack_refusal(code, place),
+    }
+}
+
+fn pack_name(answer: CommonName) -> u64
+    ensures { λ r. ⌜ r ≡ packedName answer ⌝ }
+{
+    match answer {
+        CommonName::Least(_, _) => 1,
+        CommonName::None => 0,
+        CommonName::NotSought(code, place) => pack_refusal(code, place),
+    }
+}
+
+// The words of a name at the front of out, as far as they fit, and zeros after them; all zeros where there is no name.
+fn lay_name(answer: CommonName, out: &mut [u32])
+    ensures { λ _. ⌜ now (out .exit) ≡ laid (length (now (out .entry))) (nameWords answer) ⌝ }
+{
+    match answer {
+        CommonName::Least(namespace, local) => {
+            let words = [namespace, local];
+            tables::lay_u32(out, &words);
+        }
+        CommonName::None => tables::zero_u32(out),
+        CommonName::NotSought(_, _) => tables::zero_u32(out),
+    }
+}
+
+#[no_mangle]
+pub extern "C" fn farshavan_schema_verdict(bytes: &[u8], ends: &[u32], schema: &[u32]) -> u64
+    ensures { λ r. ⌜ PackedSchema (now (bytes .entry)) (now (ends .entry)) (now (schema .entry)) r ⌝ }
+{
+    pack_verdict(relaxng::schema_verdict(bytes, ends, schema))
+}
+
+#[no_mangle]
+pub extern "C" fn farshavan_name_in_class(
+    bytes: &[u8],
+    ends: &[u32],
+    schema: &[u32],
+    class: u32,
+    namespace: u32,
+    local: u32,
+) -> u64
+    ensures { λ r. ⌜ PackedMember (now (bytes .entry)) (now (ends .entry)) (now (schema .entry)) class namespace local r ⌝ }
+{
+    pack_membership(relaxng::name_in_class(bytes, ends, schema, class, namespace, local))
+}
+
+#[no_mangle]
+pub extern "C" fn farshavan_least_common_name(
+    bytes: &[u8],
+    ends: &[u32],
+    schema: &[u32],
+    first: u32,
+    second: u32,
+    name: &mut [u32],
+) -> u64
+    ensures { λ r. ⌜ PackedLeast (now (bytes .entry)) (now (ends .entry)) (now (schema .entry)) first second (now (name .entry)) (now (name .exit)) r ⌝ }
+{
+    let answer = relaxng::least_common_name(bytes, ends, schema, first, second);
+    lay_name(answer, name);
+    pack_name(answer)
 }

@@ -1,15 +1,40 @@
 // Name classes: membership, and the least name that two classes have in common.
 ghost use mathlib.Core.Path.{_≡_};
+ghost use Prim.Native.Nat.{_+_, _≤_, _<_};
+ghost use lib.ListN.{length, set};
+ghost use Rattle.tables.specs.Answers.{Decides};
 ghost use Rattle.schema.specs.Falling.{upto};
 ghost use Rattle.schema.specs.Views.{classOf};
 ghost use Rattle.classes.specs.Membership.{memberBy, holds, inClass};
 ghost use Rattle.classes.specs.Least.{LeastAnswer};
+ghost use Rattle.classes.specs.Search.{markedRows, passed, Closure, mentionOf, leastOf, Listed, Added, Mentioned, Fresh, Candidates, Earlier, TriedName, TriedLocals, TriedAll};
 
 // A name, or none.
 pub enum Found {
     Name(u32, u32),
     Nothing,
 }
+
+// The two parts of a name.
+enum Part {
+    Namespace,
+    Local,
+}
+
+// A number that a row names, or none.
+enum Mention {
+    Of(u32),
+    NoMention,
+}
+
+// The most rows that a schema may have.
+const MAX_ROWS: usize = 512;
+
+// Rows of such a table that can be a class: one that breaks off at its end is another.
+const MARKED_ROWS: u32 = 513;
+
+// Numbers to try: one for each of these rows, and one that none of them mentions.
+const MAX_CANDIDATES: usize = MARKED_ROWS as usize + 1;
 
 // Whether the class at a row holds a name. A row that is no class holds none.
 fn class_holds(schema: &[u32], row: u32, namespace: u32, local: u32) -> bool
@@ -58,4 +83,258 @@ pub fn in_class(schema: &[u32], row: u32, namespace: u32, local: u32) -> bool
         return false;
     }
     class_holds(schema, row, namespace, local)
+}
+
+// A row past the marks is left alone.
+fn mark(marks: &mut [u32], row: u32)
+    ensures { λ _. ⌜ now (marks .exit) ≡ set (now (marks .entry)) row 1 ⌝ }
+{
+    let at = row as usize;
+    if at < marks.len() {
+        marks[at] = 1;
+    }
+}
+
+// Marks the children of a row if it is marked itself.
+fn mark_children(schema: &[u32], marks: &mut [u32], row: u32)
+    ensures { λ _. ⌜ now (marks .exit) ≡ passed (now (schema .entry)) row (now (marks .entry)) ⌝ }
+{
+    if tables::word(marks, row as usize) == 1 {
+        mark(marks, schema::child_a(schema, row));
+        mark(marks, schema::child_b(schema, row));
+    }
+}
+
+// Marks every row below a marked one.
+fn mark_below(schema: &[u32], marks: &mut [u32])
+    requires { ⌜ length (now marks) ≡ markedRows ⌝ }
+    ensures { λ _. ⌜ Closure (now (schema .entry)) (now (marks .entry)) (now (marks .exit)) ⌝ }
+{
+    let mut row = MARKED_ROWS;
+    while 0 < row {
+        row -= 1;
+        mark_children(schema, marks, row);
+    }
+}
+
+// The number that a row names as a part.
+fn mention_of(schema: &[u32], row: u32, part: Part) -> Mention
+    ensures { λ r. ⌜ r ≡ mentionOf (now (schema .entry)) row part ⌝ }
+{
+    let kind = schema::kind(schema, row);
+    match part {
+        Part::Namespace => {
+            if kind == 17 {
+                return Mention::Of(schema::field_a(schema, row));
+            }
+            if kind == 18 {
+                return Mention::Of(schema::field_a(schema, row));
+            }
+            Mention::NoMention
+        }
+        Part::Local => {
+            if kind == 18 {
+                return Mention::Of(schema::field_b(schema, row));
+            }
+            Mention::NoMention
+        }
+    }
+}
+
+// Whether a number is among the first `count` of a list.
+fn is_listed(list: &[u32], count: usize, number: u32) -> bool
+    ensures { λ r. ⌜ Decides (Listed (now (list .entry)) count number) r ⌝ }
+{
+    let mut i = 0;
+    while i < count {
+        if tables::word(list, i) == number {
+            return true;
+        }
+        i += 1;
+    }
+    false
+}
+
+// Adds what a marked row mentions to a list of `count` numbers, unless it is there, and answers their new count.
+fn add_mention(
+    schema: &[u32],
+    marks: &[u32],
+    part: Part,
+    row: u32,
+    list: &mut [u32],
+    count: usize,
+) -> usize
+    requires { ⌜ count < length (now list) ⌝ }
+    ensures { λ r. ⌜ Added (now (schema .entry)) (now (marks .entry)) part row (now (list .entry)) count (now (list .exit)) r ⌝ }
+{
+    if tables::word(marks, row as usize) != 1 {
+        return count;
+    }
+    let Mention::Of(number) = mention_of(schema, row, part) else {
+        return count;
+    };
+    if is_listed(list, count, number) {
+        return count;
+    }
+    list[count] = number;
+    count + 1
+}
+
+// Lists what the marked rows mention, and answers how many numbers these are.
+fn list_mentions(schema: &[u32], marks: &[u32], part: Part, list: &mut [u32]) -> usize
+    requires { ⌜ (length (now marks) ≡ markedRows) × (length (now list) ≡ markedRows + 1) ⌝ }
+    ensures { λ r. ⌜ Mentioned (now (schema .entry)) (now (marks .entry)) part (now (list .exit)) r ⌝ }
+{
+    let mut count = 0;
+    let mut row = 0;
+    while row < MARKED_ROWS {
+        count = add_mention(schema, marks, part, row, list, count);
+        row += 1;
+    }
+    count
+}
+
+// The least number from `first` on that is not among the first `count` of a list.
+fn fresh(list: &[u32], count: usize, first: u32) -> u32
+    requires { ⌜ (count ≤ markedRows) × (first ≤ 1) ⌝ }
+    ensures { λ r. ⌜ Fresh (now (list .entry)) count first r ⌝ }
+{
+    let mut number = first;
+    while is_listed(list, count, number) {
+        number += 1;
+    }
+    number
+}
+
+fn least_of(part: Part) -> u32
+    ensures { λ r. ⌜ r ≡ leastOf part ⌝ }
+{
+    match part {
+        Part::Namespace => 0,
+        Part::Local => 1,
+    }
+}
+
+// Lists the numbers to try: what the marked rows mention, and the least number that they do not. Answers how many these are.
+fn list_candidates(schema: &[u32], marks: &[u32], part: Part, list: &mut [u32]) -> usize
+    requires { ⌜ (length (now marks) ≡ markedRows) × (length (now list) ≡ markedRows + 1) ⌝ }
+    ensures { λ r. ⌜ Candidates (now (schema .entry)) (now (marks .entry)) part (now (list .exit)) r ⌝ }
+{
+    let count = list_mentions(schema, marks, part, list);
+    let number = fresh(list, count, least_of(part));
+    list[count] = number;
+    count + 1
+}
+
+// Whether a name is before what was found so far.
+fn is_earlier(namespace: u32, local: u32, best: Found) -> bool
+    ensures { λ r. ⌜ Earlier namespace local best r ⌝ }
+{
+    match best {
+        Found::Name(u, l) => {
+            if namespace < u {
+                return true;
+            }
+            if namespace == u { local < l } else { false }
+        }
+        Found::Nothing => true,
+    }
+}
+
+// The name, if it is in both classes and before what was found so far.
+fn try_name(
+    schema: &[u32],
+    first: u32,
+    second: u32,
+    namespace: u32,
+    local: u32,
+    best: Found,
+) -> Found
+    ensures { λ r. ⌜ TriedName (now (schema .entry)) first second namespace local best r ⌝ }
+{
+    if !is_earlier(namespace, local, best) {
+        return best;
+    }
+    if !in_class(schema, first, namespace, local) {
+        return best;
+    }
+    if !in_class(schema, second, namespace, local) {
+        return best;
+    }
+    Found::Name(namespace, local)
+}
+
+// Tries a namespace with each listed local number.
+fn try_locals(
+    schema: &[u32],
+    first: u32,
+    second: u32,
+    namespace: u32,
+    locals: &[u32],
+    count: usize,
+    best: Found,
+) -> Found
+    ensures { λ r. ⌜ TriedLocals (now (schema .entry)) first second namespace (now (locals .entry)) count best r ⌝ }
+{
+    let mut found = best;
+    let mut i = 0;
+    while i < count {
+        found = try_name(
+            schema,
+            first,
+            second,
+            namespace,
+            tables::word(locals, i),
+            found,
+        );
+        i += 1;
+    }
+    found
+}
+
+// Tries each listed namespace with each listed local number.
+fn try_names(
+    schema: &[u32],
+    first: u32,
+    second: u32,
+    namespaces: &[u32],
+    n: usize,
+    locals: &[u32],
+    k: usize,
+) -> Found
+    ensures { λ r. ⌜ TriedAll (now (schema .entry)) first second (now (namespaces .entry)) n (now (locals .entry)) k r ⌝ }
+{
+    let mut found = Found::Nothing;
+    let mut i = 0;
+    while i < n {
+        found = try_locals(
+            schema,
+            first,
+            second,
+            tables::word(namespaces, i),
+            locals,
+            k,
+            found,
+        );
+        i += 1;
+    }
+    found
+}
+
+// The least name that the classes at two rows have in common.
+pub fn least_common(schema: &[u32], first: u32, second: u32) -> Found
+    ensures { λ r. ⌜ LeastAnswer (now (schema .entry)) first second r ⌝ }
+{
+    if MAX_ROWS < schema.len() / 3 {
+        return Found::Nothing;
+    }
+    let mut marks = [0u32; MARKED_ROWS as usize];
+    mark(&mut marks, first);
+    mark(&mut marks, second);
+    mark_below(schema, &mut marks);
+    let mut namespaces = [0u32; MAX_CANDIDATES];
+    let n = list_candidates(schema, &marks, Part::Namespace, &mut namespaces);
+    let mut locals = [0u32; MAX_CANDIDATES];
+    let k = list_candidates(schema, &marks, Part::Local, &mut locals);
+    try_names(schema, first, second, &namespaces, n, &locals, k)
 }

@@ -8,7 +8,7 @@ use Rattle.schema.specs.Kinds as kind
 use Rattle.schema.specs.Rows.{kindOf, childA, childB}
 use Rattle.schema.specs.Relations.{Below, Occurs}
 use Rattle.classes.specs.Least.{Common}
-use Rattle.restrictions.specs.Paths.{isPair}
+use Rattle.places.specs.Paths.{isPair}
 
 -- anyName and nsName
 abbrev pub isWildcard : ℕ → Bool

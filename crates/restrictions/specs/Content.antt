@@ -6,7 +6,7 @@ use mathlib.Core.List.{List}
 use lib.Dec.{eqb}
 use Rattle.schema.specs.Kinds as kind
 use Rattle.schema.specs.Rows.{kindOf, bOf, childA, childB}
-use Rattle.restrictions.specs.Paths.{isPair}
+use Rattle.places.specs.Paths.{isPair}
 
 -- the content types in their order
 abbrev pub emptyType : ℕ

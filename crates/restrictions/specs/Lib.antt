@@ -1,6 +1,6 @@
 pub mod Attributes
 pub mod Content
 pub mod Interleaves
-pub mod Names
-pub mod Paths
-pub mod Places
+pub mod Occurrences
+pub mod Schema
+pub mod TypeTable

@@ -5,14 +5,15 @@ use mathlib.Core.Bool.{Bool, true, false, _&&_}
 use mathlib.Core.List.{List}
 use Prim.Native.Nat.{ℕ, _%_, _≤_, _<_}
 use native.Mathlib.Omega.{arith}
-use native.Mathlib.Decide.{ℕ-discrete}
+use native.Mathlib.Decide.{decLt, ℕ-discrete}
 use lib.ListN.{length, getD}
 use Rattle.tables.specs.Answers.{Clear}
 use Rattle.tables.proofs.Numbers.{not-less}
 use Rattle.schema.specs.Rows.{rowsOf, kindOf, aOf, bOf, shapeOf}
+use Rattle.schema.proofs.Children.{kind-past}
 use Rattle.schema.specs.Counts.{Counts}
 use Rattle.schema.specs.declared.Shape.{Shape}
-use Rattle.schema.specs.RowRule.{maxRows, fieldRight, usesBelow, rowRight, WrongRow, SizeFault, SizeRight, no-row, too-many-rows, broken-length, RowFault, bad-size, bad-row}
+use Rattle.schema.specs.RowRule.{maxRows, fieldRight, usesBelow, rowRight, WrongRow, SizeFault, SizeRight, no-row, too-many-rows, broken-length, RowFault, RowsRight, bad-size, bad-row}
 
 pub size-right : {s : List ℕ} → rowsOf s ≢ 0 → rowsOf s ≤ maxRows → length s % 3 ≡ 0 → (r : ℕ) → ¬ SizeFault s r
 size-right some few whole r (no-row e z) = some e
@@ -42,6 +43,14 @@ module _ {s : List ℕ} (right : SizeRight s) where
       go (yes e) = e
       go (no f) = absurd (right 0 (broken-length f refl))
 
+  -- a row that has a kind is in the table
+  pub in-table : {r : ℕ} → kindOf s r ≢ 0 → r < rowsOf s
+  in-table {r} f = go (decLt r (rowsOf s))
+    where
+      go : Dec (r < rowsOf s) → r < rowsOf s
+      go (yes h) = h
+      go (no h) = absurd (f (kind-past s r whole-rows (not-less h)))
+
   -- with the right size only rows can be wrong
   pub only-rows : {strings : ℕ} (r : ℕ) → RowFault strings s r → WrongRow strings s r
   only-rows r (bad-size f) = absurd (right r f)
@@ -58,3 +67,7 @@ module _ (strings : ℕ) (s : List ℕ) (r : ℕ) {k x : ℕ} {shape : Shape} {a
 -- the test of a row by its count is that by its uses
 pub row-tested : (strings : ℕ) {s counts : List ℕ} {r uses : ℕ} {answer : Bool} → Counts s counts (rowsOf s) → r < maxRows → uses ≡ getD counts r 0 → answer ≡ rowRight strings s r uses → rowRight strings s r (usesBelow s r (rowsOf s)) ≡ answer
 row-tested strings {s} {counts} {r} c h e f = rw (← c .uses r h, ← e) (sym f)
+
+-- rows that keep their rule are a table of the right size
+pub right-size : {strings : ℕ} {s : List ℕ} → RowsRight strings s → SizeRight s
+right-size right r f = right r (bad-size f)

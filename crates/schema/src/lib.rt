@@ -132,6 +132,13 @@ fn is_element(sort: Sort) -> bool
     }
 }
 
+// Whether a row is a name class.
+pub fn is_class_row(schema: &[u32], row: u32) -> bool
+    ensures { λ r. ⌜ r ≡ isClass (sortOf (now (schema .entry)) row) ⌝ }
+{
+    is_class(sort_at(schema, row))
+}
+
 // Whether x is a smaller row than p, and a pattern.
 fn pattern_below(schema: &[u32], p: u32, x: u32) -> bool
     ensures { λ r. ⌜ r ≡ names (now (schema .entry)) p Field.APattern x ⌝ }

@@ -1,0 +1,4 @@
+pub mod Faults
+pub mod Marks
+pub mod Places
+pub mod Sweep

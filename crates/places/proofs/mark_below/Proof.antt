@@ -1,0 +1,62 @@
+-- The invariant: the rows marked are the children of rows from p on that are sources or below one. When p is passed its own mark is final, since its parents are larger.
+use Prim.Native.Nat.{suc, _≤_}
+use mathlib.Core.Path.{_≡_, refl}
+use native.Mathlib.Omega.{arith}
+use denote.Ref.{now}
+use lib.ListN.{length}
+use borrow.Author.Needs.{needs}
+use Rattle.schema.specs.RowRule.{maxRows}
+use Rattle.places.specs.Marks.{Marks}
+use Rattle.places.specs.Sources.{IsSource}
+use Rattle.places.proofs.Sweep.{Swept, Passed, sweep-none, sweep-below, sweep-end}
+use Rattle.places.proofs.mark_below.Statement.{statement}
+use Rattle.places.proofs.mark_below.Tie as tie
+
+abbrev Inv-loop : tie.InvT-loop
+Inv-loop schema source marks below₀ p₀ below p = (length below ≡ length below₀) × (p ≤ suc maxRows) × Marks (Swept schema (Passed schema (IsSource schema source marks)) p) below
+
+abbrev μ-loop : tie.MeasureT-loop
+μ-loop schema source marks below₀ p₀ below p = p
+
+zero-u32-requires : tie.Need-zero-u32-requires Inv-loop μ-loop
+zero-u32-requires c κs = search needs
+
+row-end-requires : tie.Need-row-end-requires Inv-loop μ-loop
+row-end-requires c κs = c .before .before .before .before .before .before .before .pre .few
+
+loop-holds : tie.Need-loop-holds Inv-loop μ-loop
+loop-holds c = (refl, c .row-end .ensures .few, rw (c .before .before .before .zero-u32 .ensures) (sweep-none (length (now (c .before .before .before .before .before .before .before .before .args .below))) (c .row-end .ensures)))
+
+sub-p : tie.Need-sub-p Inv-loop μ-loop
+sub-p c = omega arith
+
+pass-below-requires : tie.Need-pass-below-requires Inv-loop μ-loop
+pass-below-requires c κs = omega arith
+
+loop-less : tie.Need-loop-less Inv-loop μ-loop
+loop-less c = omega arith
+
+loop-again : tie.Need-loop-again Inv-loop μ-loop
+loop-again c = (omega arith, omega arith, sweep-below (omega arith) (c .before .before .before .before .before .loop .inv .2) (c .before .before .pass-below .ensures))
+
+same-length : tie.Need-same-length Inv-loop μ-loop
+same-length c = omega arith
+
+returns : tie.Need-returns Inv-loop μ-loop
+returns c = sweep-end (omega arith) (c .before .loop .inv .2)
+
+pub mark-below-spec : {M : Type 1} → statement M
+mark-below-spec =
+    tie.close
+    (tie.spec
+    Inv-loop
+    μ-loop
+    zero-u32-requires
+    row-end-requires
+    loop-holds
+    sub-p
+    pass-below-requires
+    loop-less
+    loop-again
+    same-length
+    returns)

@@ -1,0 +1,21 @@
+-- Both children are wanted where p is a source or below one.
+use native.Mathlib.Omega.{arith}
+use borrow.Author.Needs.{needs}
+use Rattle.places.proofs.Marks.{adds-those}
+use Rattle.places.proofs.pass_below.Statement.{statement}
+use Rattle.places.proofs.pass_below.Tie as tie
+
+passes-requires : tie.Need-passes-requires
+passes-requires c κs = search needs
+
+mark-children-requires : tie.Need-mark-children-requires
+mark-children-requires c κs = search needs
+
+same-length : tie.Need-same-length
+same-length c = search needs
+
+returns : tie.Need-returns
+returns c = adds-those (omega arith) _ (c .before .before .before .before .passes .ensures) (c .before .before .before .before .passes .ensures) (c .before .before .mark-children .ensures)
+
+pub pass-below-spec : {M : Type 1} → statement M
+pass-below-spec = tie.close (tie.spec passes-requires mark-children-requires same-length returns)

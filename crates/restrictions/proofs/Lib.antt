@@ -1,0 +1,6 @@
+pub mod Clashes
+pub mod Descent
+pub mod Infinity
+pub mod Occurring
+pub mod TypeTables
+pub mod Types

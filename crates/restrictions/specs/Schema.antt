@@ -1,0 +1,27 @@
+-- Codes 2 to 8 in their order.
+use Prim.Native.Nat.{ℕ}
+use mathlib.Core.List.{List}
+use Rattle.tables.specs.Refusals.{Tries, Passes}
+use Rattle.tables.specs.declared.Verdict.{Verdict}
+use Rattle.schema.specs.RowRule.{RowFault}
+use Rattle.places.specs.Places.{PlaceFault}
+use Rattle.places.specs.Names.{NameFault}
+use Rattle.places.specs.Paths.{PathFault}
+use Rattle.restrictions.specs.Content.{SequenceFault}
+use Rattle.restrictions.specs.Attributes.{AttributeFault}
+use Rattle.restrictions.specs.Interleaves.{InterleaveFault}
+
+-- codes 2 to 8 over the rows of a schema beside so many strings, and after them what next says
+abbrev pub SchemaTries : ℕ → List ℕ → (Verdict → Type 0) → Verdict → Type 0
+SchemaTries strings s next =
+    Tries 2 (RowFault strings s)
+    (Tries 3 (PlaceFault s)
+    (Tries 4 (NameFault s)
+    (Tries 5 (PathFault s)
+    (Tries 6 (SequenceFault s)
+    (Tries 7 (AttributeFault s)
+    (Tries 8 (InterleaveFault s) next))))))
+
+-- the verdict on them alone
+abbrev pub SchemaVerdict : ℕ → List ℕ → Verdict → Type 0
+SchemaVerdict strings s = SchemaTries strings s Passes
