@@ -1,5 +1,6 @@
 pub mod Children
 pub mod Falling
+pub mod Fields
 pub mod RowLaws
 pub mod Shapes
 pub mod Uses
