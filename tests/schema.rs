@@ -11,6 +11,10 @@ use maker::{damage, expand, grow, over, read, rows_of, Rng, Row};
 use reference::{Input, NONE};
 use std::cell::Cell;
 use std::fmt::{Arguments, Debug};
+use std::time::{Duration, Instant};
+
+/// What a large schema may take, with room for a busy machine; it takes some tens of milliseconds.
+const LIMIT: Duration = Duration::from_secs(5);
 
 #[rustfmt::skip]
 extern "C" {
@@ -524,7 +528,9 @@ fn large_schemas(y: &mut Tally) {
     ];
     for right in [true, false] {
         for (code, body) in bodies {
+            let began = Instant::now();
             y.notation("large", 512, code, &expand(&format!("element 0:1 {body} start $0"), right));
+            y.same("large, in time", format_args!("{body}"), began.elapsed() < LIMIT, true);
         }
         for (one, other, name) in classes {
             let text = format!("element !{one} none element !{other} none start none");

@@ -8,9 +8,9 @@ use Rattle.tables.specs.Answers.{Finds}
 use Rattle.tables.specs.Outputs.{laid}
 use Rattle.tables.specs.declared.Checked.{Checked}
 use Rattle.strings.specs.Text.{StringText}
-use Rattle.tables.specs.Refusals.{refusalOf, Passes}
+use Rattle.tables.specs.Refusals.{refusalOf, codeOf, placeOf, Passes}
 use Rattle.tables.specs.declared.Verdict.{Verdict}
-use Rattle.tables.specs.declared.Verdict.the-variants.{Passed, Refused}
+use Rattle.relaxng.specs.Answers.{membershipVerdict, commonVerdict}
 use Rattle.relaxng.specs.Promises.{SchemaRefusal, NameInClass, LeastCommonName}
 use Rattle.relaxng.specs.declared.Membership.{Membership}
 use Rattle.relaxng.specs.declared.Membership.the-variants.{Yes, No, NotJudged}
@@ -19,8 +19,7 @@ use Rattle.relaxng.specs.declared.CommonName.the-variants.{Least, None, NotSoug
 
 -- a verdict as one number: 0 where nothing is refused, and otherwise the code times 2^32 plus the place
 abbrev pub packedVerdict : Verdict → ℕ
-packedVerdict Passed = 0
-packedVerdict (Refused code place) = code * 4294967296 + place
+packedVerdict v = codeOf v * 4294967296 + placeOf v
 
 -- the packed answer of the check for P, which has this code
 pub record PackedCheck (code : ℕ) (P : ℕ → Type 0) (r : ℕ) : Type 0 where
@@ -39,13 +38,13 @@ pub record CopiedText (bytes : RefT (List ℕ)) (ends : List ℕ) (k : ℕ) (out
 abbrev pub packedMembership : Membership → ℕ
 packedMembership Yes = 1
 packedMembership No = 0
-packedMembership (NotJudged code place) = code * 4294967296 + place
+packedMembership (NotJudged code place) = packedVerdict (membershipVerdict (NotJudged code place))
 
 -- an answer on a common name: the refusal, or 1 where there is one and 0 where there is none; and the words of the name
 abbrev pub packedName : CommonName → ℕ
 packedName (Least namespace local) = 1
 packedName None = 0
-packedName (NotSought code place) = code * 4294967296 + place
+packedName (NotSought code place) = packedVerdict (commonVerdict (NotSought code place))
 
 abbrev pub nameWords : CommonName → List ℕ
 nameWords (Least namespace local) = namespace ∷ local ∷ []

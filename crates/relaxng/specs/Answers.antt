@@ -1,4 +1,4 @@
--- Document 01's numbers for each case of the answers: code and place, 0 and 0 where nothing is refused; yes or no; the name, 0 and 0 where there is none.
+-- What each case of an answer says: of refusal, as a verdict with document 01's code and place (`codeOf`, `placeOf` of `Refusals`); yes or no; the name or none.
 use Prim.Native.Nat.{ℕ}
 use mathlib.Core.Bool.{Bool, true, false}
 use Rattle.tables.specs.declared.Verdict.{Verdict}
@@ -9,14 +9,6 @@ use Rattle.relaxng.specs.declared.CommonName.{CommonName}
 use Rattle.relaxng.specs.declared.CommonName.the-variants.{Least, None, NotSought}
 use Rattle.classes.specs.declared.Found.{Found}
 use Rattle.classes.specs.declared.Found.the-variants.{Name, Nothing}
-
-abbrev pub codeOf : Verdict → ℕ
-codeOf Passed = 0
-codeOf (Refused code place) = code
-
-abbrev pub placeOf : Verdict → ℕ
-placeOf Passed = 0
-placeOf (Refused code place) = place
 
 -- what an answer says of refusal
 abbrev pub membershipVerdict : Membership → Verdict

@@ -15,7 +15,7 @@ pack-refusal-requires : tie.Need-pack-refusal-requires
 pack-refusal-requires c κs = search needs
 
 returns : tie.Need-returns
-returns c = search needs
+returns c = rw (c .enum-told .given .1)
 
 returns-2 : tie.Need-returns-2
 returns-2 c = c .pack-refusal .ensures ∙ sym (ap packedVerdict (c .before .before .verdict .given .1))

@@ -1,0 +1,4 @@
+pub mod Ancestors
+pub mod Counting
+pub mod Order
+pub mod Size

@@ -1,0 +1,5 @@
+pub mod Counts
+pub mod NodeRule
+pub mod Nodes
+pub mod Walk
+pub mod Width
