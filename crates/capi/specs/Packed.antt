@@ -10,6 +10,7 @@ use Rattle.tables.specs.declared.Checked.{Checked}
 use Rattle.strings.specs.Text.{StringText}
 use Rattle.tables.specs.Refusals.{refusalOf, codeOf, placeOf, Passes}
 use Rattle.tables.specs.declared.Verdict.{Verdict}
+use Rattle.instance.specs.Width.{FindsWidth}
 use Rattle.relaxng.specs.Answers.{membershipVerdict, commonVerdict}
 use Rattle.relaxng.specs.Promises.{SchemaRefusal, NameInClass, LeastCommonName}
 use Rattle.relaxng.specs.declared.Membership.{Membership}
@@ -66,3 +67,8 @@ pub record PackedLeast (bytes ends s : List ℕ) (first second : ℕ) (out left 
   pub promise : LeastCommonName bytes ends s first second answer
   pub number : r ≡ packedName answer
   pub words : left ≡ laid (length out) (nameWords answer)
+
+pub record PackedWidth (t : List ℕ) (r : ℕ) : Type 0 where
+  pub answer : Checked
+  pub finds : FindsWidth t answer
+  pub number : r ≡ packedVerdict (refusalOf 10 answer)

@@ -8,8 +8,9 @@ ghost use lib.ListN.{length};
 ghost use Rattle.tables.specs.Outputs.{laid};
 ghost use Rattle.tables.specs.Answers.{Decides};
 ghost use Rattle.strings.specs.Strings.{StringFault};
+ghost use Rattle.instance.specs.NodeRule.{NodeFault};
 ghost use Rattle.datatypes.specs.Whitespace.{whitespace, stringEqual, tokenEqual};
-ghost use Rattle.capi.specs.Packed.{packedVerdict, packedMembership, packedName, nameWords, PackedCheck, CopiedText, PackedSchema, PackedMember, PackedLeast};
+ghost use Rattle.capi.specs.Packed.{packedVerdict, packedMembership, packedName, nameWords, PackedCheck, CopiedText, PackedSchema, PackedMember, PackedLeast, PackedWidth};
 
 #[no_mangle]
 pub extern "C" fn farshavan_check_strings(bytes: &[u8], ends: &[u32]) -> u64
@@ -134,4 +135,18 @@ pub extern "C" fn farshavan_least_common_name(
     let answer = relaxng::least_common_name(bytes, ends, schema, first, second);
     lay_name(answer, name);
     pack_name(answer)
+}
+
+#[no_mangle]
+pub extern "C" fn farshavan_check_nodes(strings: usize, instance: &[u32]) -> u64
+    ensures { λ r. ⌜ PackedCheck 9 (NodeFault strings (now (instance .entry))) r ⌝ }
+{
+    pack_verdict(tables::refusal(9, instance::check_nodes(strings, instance)))
+}
+
+#[no_mangle]
+pub extern "C" fn farshavan_check_width(instance: &[u32]) -> u64
+    ensures { λ r. ⌜ PackedWidth (now (instance .entry)) r ⌝ }
+{
+    pack_verdict(tables::refusal(10, instance::check_width(instance)))
 }
