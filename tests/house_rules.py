@@ -2,8 +2,9 @@
 """Rules of the repository that the prover does not see. Each rule is tried at each place that it speaks of.
 
 A test file that tests/parts.txt does not list, a public function without a promise in docs/PROMISES.md or with a
-`requires`, a function without an `ensures`, a long function or proof file, a must-fail edit that no promise names, a crate
-without a line in the map or in the times, a hole or an axiom in a proof, a definition under a name of the library.
+`requires`, a function without an `ensures`, a long function or proof file, a must-fail edit that no promise names or that
+a promise names in vain, a crate without a line in the map or in the times, a hole or an axiom in a proof, a definition
+under a name of the library.
 """
 import glob
 import os
@@ -72,9 +73,10 @@ for path in sorted(glob.glob("crates/**/*.antt", recursive=True)):
     if "/specs/" in path:
         hold(not LIBRARY.search(text), f"{path} gives no name of the library another meaning")
 
-for path in sorted(glob.glob("crates/*/must-fail/*.edit")):
-    label = os.path.basename(path)[: -len(".edit")]
-    hold(f"`{label}`" in promises, f"{path} in docs/PROMISES.md")
+edits = sorted(glob.glob("crates/*/must-fail/*.edit"))
+labels = {os.path.basename(path)[: -len(".edit")] for path in edits}
+for label in sorted(labels | set(re.findall(r"\(`([a-z0-9_]+)`\)", promises))):
+    hold(f"(`{label}`)" in promises and label in labels, f"must-fail edit {label} and docs/PROMISES.md")
 
 print(f"{passed} passed, {failed} failed")
 sys.exit(1 if failed or not passed else 0)
