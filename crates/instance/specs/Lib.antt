@@ -1,4 +1,5 @@
 pub mod Counts
+pub mod Elements
 pub mod NodeRule
 pub mod Nodes
 pub mod Walk
