@@ -1,0 +1,1 @@
+// Sets of positions in one word, and relations on positions as words.
