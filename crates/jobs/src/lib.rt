@@ -1,0 +1,1 @@
+// The job file of document 01: what is written and what is read, as definitions in specs/, and the round trip in proofs/. There is no function here.
