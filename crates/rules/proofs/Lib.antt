@@ -1,2 +1,15 @@
+pub mod Booleans
+pub mod Groups
+pub mod Interleavings
+pub mod Inversion
+pub mod Occurrences
+pub mod OneElement
+pub mod Padding
+pub mod Positions
 pub mod Reach
+pub mod Repeats
 pub mod Restricted
+pub mod Runs
+pub mod Sequences
+pub mod Spans
+pub mod Stripping

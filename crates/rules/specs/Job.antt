@@ -40,7 +40,7 @@ module _ (bytes ends s t : List ℕ) where
     SameName = SameName t;
     attributes = isAttribute t;
     children = λ e. map itemOf (childrenOf t e);
-    value = λ x. textOf bytes ends (cOf t x)
+    value = λ x. textOf bytes ends (cOf t x);
   }
 
   -- element row e and definition row d are a pair of the match list: e is proved against a reference to d

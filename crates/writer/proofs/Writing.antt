@@ -1,0 +1,76 @@
+-- One text put after another.
+use mathlib.Core.Path.{_≡_, refl, sym, _∙_, ap, ap₂}
+use mathlib.Core.List.{List, [], _∷_, _++_, append-assoc}
+use Prim.Native.Nat.{ℕ, zero, suc, _+_, _*_, _/_, _%_, _≤_, _<_}
+use native.Mathlib.Omega.{arith}
+use native.Mathlib.Nat.{add-zero}
+use native.Mathlib.Numerals.{add-one}
+use lib.ListN.{length, take, getD, set, length-append}
+use lib.Seq.{sets, set-out, length-sets, take-suc, take-all}
+use Rattle.jobs.specs.Numbers.{wordText, wordsText, hexDigit, hexText}
+use Rattle.jobs.proofs.Decimals.{word-length}
+use Rattle.writer.specs.Writing.{Wrote}
+
+pub sets-append : (l : List ℕ) (i : ℕ) (a b : List ℕ) → sets (sets l i a) (i + length a) b ≡ sets l i (a ++ b)
+sets-append l i [] b = rw add-zero refl
+sets-append l i (v ∷ a) b =
+    let e : i + suc (length a) ≡ suc i + length a = omega arith in
+    rw e (sets-append (set l i v) (suc i) a b)
+
+pub wrote-none : (out : List ℕ) (at : ℕ) → Wrote out at [] out at
+wrote-none out at = record { holds = refl; moves = sym (add-zero at) }
+
+pub wrote-byte : (out : List ℕ) (at b : ℕ) → Wrote out at (b ∷ []) (set out at b) (at + 1)
+wrote-byte out at b = record { holds = refl; moves = refl }
+
+pub wrote-past : (out : List ℕ) (at b : ℕ) → length out ≤ at → Wrote out at (b ∷ []) out (at + 1)
+wrote-past out at b h = record { holds = sym (set-out out at b h); moves = refl }
+
+pub wrote-more : {out : List ℕ} {at : ℕ} {a b : List ℕ} {mid : List ℕ} {p : ℕ} {end : List ℕ} {q : ℕ} → Wrote out at a mid p → Wrote mid p b end q → Wrote out at (a ++ b) end q
+wrote-more {out} {at} {a} {b} w v = record {
+  holds = v .holds ∙ ap₂ (λ l i. sets l i b) (w .holds) (w .moves) ∙ sets-append out at a b;
+  moves = v .moves ∙ let e = w .moves in let f = length-append a b in omega arith;
+}
+
+pub wrote-as : {out : List ℕ} {at : ℕ} {a b : List ℕ} {end : List ℕ} {q : ℕ} → a ≡ b → Wrote out at a end q → Wrote out at b end q
+wrote-as {out} {at} {a} {b} {end} {q} e w = rw (← e) w
+
+pub wrote-length : {out : List ℕ} {at : ℕ} {a : List ℕ} {end : List ℕ} {q : ℕ} → Wrote out at a end q → length end ≡ length out
+wrote-length {out} {at} {a} w = ap length (w .holds) ∙ length-sets out at a
+
+-- what was written of a list of bytes or words, the first i of them
+pub record Front (text : List ℕ → List ℕ) (out : List ℕ) (at : ℕ) (l : List ℕ) (now : List ℕ) (i p : ℕ) : Type 0 where
+  pub wrote : Wrote out at (text (take i l)) now p
+  pub within : i ≤ length l
+
+pub front-more : {text : List ℕ → List ℕ} {out : List ℕ} {at : ℕ} {l now : List ℕ} {i p : ℕ} {more : List ℕ} {next : List ℕ} {q : ℕ}
+    → Front text out at l now i p → i < length l → text (take i l ++ getD l i 0 ∷ []) ≡ text (take i l) ++ more → Wrote now p more next q → Front text out at l next (i + 1) q
+front-more {text} {out} {at} {l} {now} {i} f h e w = record {
+  wrote = wrote-as (sym e ∙ ap text (sym (take-suc l i 0 h) ∙ ap (λ k. take k l) (sym (add-one i)))) (wrote-more (f .wrote) w);
+  within = omega arith;
+}
+
+pub front-done : {text : List ℕ → List ℕ} {out : List ℕ} {at : ℕ} {l now : List ℕ} {i p : ℕ} → Front text out at l now i p → length l ≤ i → Wrote out at (text l) now p
+front-done {text} {l = l} {i = i} f h = wrote-as (ap text (take-all i l h)) (f .wrote)
+
+pub hex-append : (l : List ℕ) (b : ℕ) → hexText (l ++ b ∷ []) ≡ hexText l ++ hexDigit (b / 16) ∷ hexDigit (b % 16) ∷ []
+hex-append [] b = refl
+hex-append (c ∷ l) b = ap (λ r. hexDigit (c / 16) ∷ hexDigit (c % 16) ∷ r) (hex-append l b)
+
+pub hex-length : (l : List ℕ) → length (hexText l) ≡ 2 * length l
+hex-length [] = refl
+hex-length (c ∷ l) = let e = hex-length l in omega arith
+
+pub words-append : (l : List ℕ) (w : ℕ) → 0 < length l → wordsText (l ++ w ∷ []) ≡ wordsText l ++ 44 ∷ wordText w
+words-append [] w h = absurd (omega arith)
+words-append (v ∷ []) w h = refl
+words-append (v ∷ u ∷ l) w h = ap (λ r. wordText v ++ 44 ∷ r) (words-append (u ∷ l) w (omega arith)) ∙ sym (append-assoc (wordText v) (44 ∷ wordsText (u ∷ l)) (44 ∷ wordText w))
+
+pub words-length : (l : List ℕ) → length (wordsText l) ≤ 11 * length l
+words-length [] = omega arith
+words-length (w ∷ []) = let h = word-length w in omega arith
+words-length (w ∷ v ∷ l) =
+    let h = word-length w in
+    let k = words-length (v ∷ l) in
+    let e = length-append (wordText w) (44 ∷ wordsText (v ∷ l)) in
+    omega arith
