@@ -13,11 +13,11 @@ use Rattle.instance.specs.Nodes.{element, none, kindOf, parentOf}
 use Rattle.instance.specs.NodeRule.{maxNodes, nearest, Up, itself, above, ParentRight}
 use Rattle.instance.specs.Walk.{Rooted}
 
-sure : {A : Type 0} → Dec A → ¬ (¬ A) → A
+pub sure : {A : Type 0} → Dec A → ¬ (¬ A) → A
 sure (yes a) f = a
 sure (no g) f = absurd (f g)
 
-up-none : {t : List ℕ} {x e : ℕ} → Up t x e → e ≡ none → x ≡ none
+pub up-none : {t : List ℕ} {x e : ℕ} → Up t x e → e ≡ none → x ≡ none
 up-none itself z = z
 up-none (above f u) z = absurd (f z)
 

@@ -1,4 +1,6 @@
 pub mod Ancestors
 pub mod Counting
+pub mod Elements
 pub mod Order
+pub mod RowLists
 pub mod Size

@@ -20,18 +20,18 @@ use Rattle.instance.specs.Walk.{LastChild, no-child, child-at, LastChild
 use Rattle.instance.proofs.Ancestors.{root-told, parent-before}
 
 -- a pair of tests that holds
-and-parts : (a b : Bool) → (a && b) ≡ true → (a ≡ true) × (b ≡ true)
+pub and-parts : (a b : Bool) → (a && b) ≡ true → (a ≡ true) × (b ≡ true)
 and-parts true b e = (refl, e)
 and-parts false b e = absurd (true≢false (sym e))
 
 module _ (t : List ℕ) (e q : ℕ) where
-  child-parent : isChild t e q ≡ true → parentOf t q ≡ e
+  pub child-parent : isChild t e q ≡ true → parentOf t q ≡ e
   child-parent h = eqb-true _ _ (and-parts _ _ h .0)
 
-  child-kind : isChild t e q ≡ true → kindOf t q ≢ 0
+  pub child-kind : isChild t e q ≡ true → kindOf t q ≢ 0
   child-kind h z = true≢false (sym (and-parts (eqb (parentOf t q) e) _ h .1) ∙ ap (λ (k : ℕ). eqb k element || eqb k text) z)
 
-  text-child : kindOf t q ≡ text → parentOf t q ≡ e → isChild t e q ≡ true
+  pub text-child : kindOf t q ≡ text → parentOf t q ≡ e → isChild t e q ≡ true
   text-child k p = rw (k, eq-eqb _ _ p)
 
   pub attribute-parent : isAttribute t e q ≡ true → parentOf t q ≡ e

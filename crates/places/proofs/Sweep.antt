@@ -63,7 +63,7 @@ last-step {s} {r} {q} (deeper c b) = go (last-step b) c
       rest = inr (⊎-elim (λ e. child (subst (Child s q) (sym e) c)) (λ b. deeper c b) (l .rest));
     }
 
-further : {s : List ℕ} {p q r : ℕ} → Below s p q → Child s p r → Below s r q
+pub further : {s : List ℕ} {p q r : ℕ} → Below s p q → Child s p r → Below s r q
 further (child c) d = deeper c (child d)
 further (deeper c b) d = deeper c (further b d)
 

@@ -25,7 +25,7 @@ module _ {strings : ℕ} {s : List ℕ} (p : SchemaPasses strings s) where
   table e n = in-table (right-size (p .rows)) (λ z. n (sym e ∙ z))
 
   -- types go together where there is no fault
-  grouped : (b : Bool) {A : Type 0} → ¬ A → (b ≡ false → A) → b ≡ true
+  pub grouped : (b : Bool) {A : Type 0} → ¬ A → (b ≡ false → A) → b ≡ true
   grouped true n f = refl
   grouped false n f = absurd (n (f refl))
 

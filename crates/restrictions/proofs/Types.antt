@@ -46,7 +46,7 @@ type-low (oneOrMore-type e t g) = type-low t
 type-low (choice-type e t u) = omega (arith, type-low t, type-low u)
 
 -- the type and the clash of a group or interleave
-pair-kind : (k : ℕ) → isPair k ≡ true → (k ≡ kind.group) ⊎ (k ≡ kind.interleave)
+pub pair-kind : (k : ℕ) → isPair k ≡ true → (k ≡ kind.group) ⊎ (k ≡ kind.interleave)
 pair-kind k e = or-elim (eqb k kind.group) (eqb k kind.interleave) e (λ x. inl (eqb-true _ _ x)) (λ x. inr (eqb-true _ _ x))
 
 pair-by : (k b c d : ℕ) → isPair k ≡ true → typeBy k b c d ≡ cond (fits c d) (max c d) noType

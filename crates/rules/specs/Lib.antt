@@ -1,3 +1,4 @@
 pub mod Items
 pub mod Job
+pub mod Listed
 pub mod Rules

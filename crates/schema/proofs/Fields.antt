@@ -14,7 +14,7 @@ use Rattle.schema.specs.RowRule.{fieldRight, sortRight, usesBelow, rowRi
 use Rattle.schema.specs.declared.Shape.{Shape}
 use Rattle.schema.specs.declared.Field.the-variants.{APattern, PatternOrNone}
 
-and-both : (x y : Bool) → (x && y) ≡ true → (x ≡ true) × (y ≡ true)
+pub and-both : (x y : Bool) → (x && y) ≡ true → (x ≡ true) × (y ≡ true)
 and-both true y e = (refl, e)
 and-both false y e = absurd (false≢true e)
 
@@ -23,7 +23,7 @@ or-either true y e = inl refl
 or-either false y e = inr e
 
 module _ (strings : ℕ) (s : List ℕ) (right : RowsRight strings s) (r : ℕ) (h : r < rowsOf s) where
-  row-right : rowRight strings s r (usesBelow s r (rowsOf s)) ≡ true
+  pub row-right : rowRight strings s r (usesBelow s r (rowsOf s)) ≡ true
   row-right = go (rowRight strings s r (usesBelow s r (rowsOf s))) refl
     where
       go : (b : Bool) → rowRight strings s r (usesBelow s r (rowsOf s)) ≡ b → b ≡ true
@@ -33,7 +33,7 @@ module _ (strings : ℕ) (s : List ℕ) (right : RowsRight strings s) (r : ℕ) 
   fields : (fieldRight strings s r (shapeOf (kindOf s r) .a) (aOf s r) && fieldRight strings s r (shapeOf (kindOf s r) .b) (bOf s r)) ≡ true
   fields = and-both _ (sortRight (sortOf s r) (usesBelow s r (rowsOf s)) (eqb (r + 1) (rowsOf s))) row-right .0
 
-  both-fields : (fieldRight strings s r (shapeOf (kindOf s r) .a) (aOf s r) ≡ true) × (fieldRight strings s r (shapeOf (kindOf s r) .b) (bOf s r) ≡ true)
+  pub both-fields : (fieldRight strings s r (shapeOf (kindOf s r) .a) (aOf s r) ≡ true) × (fieldRight strings s r (shapeOf (kindOf s r) .b) (bOf s r) ≡ true)
   both-fields = and-both (fieldRight strings s r (shapeOf (kindOf s r) .a) (aOf s r)) (fieldRight strings s r (shapeOf (kindOf s r) .b) (bOf s r)) fields
 
   -- a field that holds a pattern names a child
@@ -68,7 +68,7 @@ pub data PatternKind (k : ℕ) : Type 0 where
   is-group : k ≡ 11 → PatternKind k
   is-interleave : k ≡ 12 → PatternKind k
 
-either-shape : (P : Shape → Type 0) (b : Bool) {x y : Shape} → (b ≡ true → P x) → (b ≡ false → P y) → P (cond b x y)
+pub either-shape : (P : Shape → Type 0) (b : Bool) {x y : Shape} → (b ≡ true → P x) → (b ≡ false → P y) → P (cond b x y)
 either-shape P true f g = f refl
 either-shape P false f g = g refl
 

@@ -3,4 +3,5 @@ pub mod Falling
 pub mod Fields
 pub mod RowLaws
 pub mod Shapes
+pub mod Sorts
 pub mod Uses

@@ -1,13 +1,15 @@
 -- One text put after another.
 use mathlib.Core.Path.{_≡_, refl, sym, _∙_, ap, ap₂}
+use mathlib.Core.Logic.{_≢_}
 use mathlib.Core.List.{List, [], _∷_, _++_, append-assoc}
 use Prim.Native.Nat.{ℕ, zero, suc, _+_, _*_, _/_, _%_, _≤_, _<_}
 use native.Mathlib.Omega.{arith}
 use native.Mathlib.Nat.{add-zero}
 use native.Mathlib.Numerals.{add-one}
-use lib.ListN.{length, take, getD, set, length-append}
-use lib.Seq.{sets, set-out, length-sets, take-suc, take-all}
-use Rattle.jobs.specs.Numbers.{wordText, wordsText, hexDigit, hexText}
+use lib.ListN.{length, take, drop, getD, set, length-append, length-drop}
+use lib.Seq.{sets, set-out, length-sets, take-suc, take-all, length-take-le, getD-take, getD-drop}
+use borrow.Author.Tests.{eq-eqb, ne-eqb}
+use Rattle.jobs.specs.Numbers.{largestWord, decimal, wordText, wordsText, hexDigit, hexText}
 use Rattle.jobs.proofs.Decimals.{word-length}
 use Rattle.writer.specs.Writing.{Wrote}
 
@@ -74,3 +76,34 @@ words-length (w ∷ v ∷ l) =
     let k = words-length (v ∷ l) in
     let e = length-append (wordText w) (44 ∷ wordsText (v ∷ l)) in
     omega arith
+
+pub word-largest : (w : ℕ) → w ≡ largestWord → wordText w ≡ 45 ∷ []
+word-largest w e = rw (eq-eqb w largestWord e)
+
+pub word-number : (w : ℕ) → w ≢ largestWord → wordText w ≡ decimal w
+word-number w n = rw (ne-eqb w largestWord n)
+
+-- the words of a row
+module _ (table : List ℕ) (first width : ℕ) (h : first + width ≤ length table) where
+  abbrev pub row : List ℕ
+  row = take width (drop first table)
+
+  pub row-length : length row ≡ width
+  row-length = length-take-le width (drop first table) (let e = length-drop first table in omega arith)
+
+  pub row-word : (j : ℕ) → j < width → getD row j 0 ≡ getD table (first + j) 0
+  row-word j l = getD-take width (drop first table) j 0 l ∙ getD-drop first table j 0
+
+  pub row-first : 0 < width → take 1 row ≡ getD table first 0 ∷ []
+  row-first l =
+      take-suc row 0 0 (let e = row-length in omega arith) ∙ ap (λ w. w ∷ []) (row-word 0 l ∙ ap (λ k. getD table k 0) (add-zero first))
+
+  -- one more word after a comma
+  pub row-more : {out : List ℕ} {at : ℕ} {now : List ℕ} {j p : ℕ} {mid : List ℕ} {q : ℕ} {next : List ℕ} {r : ℕ}
+      → Front wordsText out at row now j p → 0 < j → j < width → Wrote now p (44 ∷ []) mid q → Wrote mid q (wordText (getD table (first + j) 0)) next r → Front wordsText out at row next (j + 1) r
+  row-more {j = j} f z l w v =
+      let e = row-length in
+      let t = length-take-le j row (omega arith) in
+      front-more f (omega arith)
+      (words-append (take j row) (getD row j 0) (omega arith) ∙ ap (λ (x : ℕ). wordsText (take j row) ++ 44 ∷ wordText x) (row-word j l))
+      (wrote-more w v)

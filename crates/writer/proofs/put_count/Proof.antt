@@ -1,3 +1,6 @@
+use Rattle.writer.proofs.Writing.{wrote-more}
+use Rattle.jobs.proofs.Decimals.{decimal-length}
+use native.Mathlib.Omega.{arith}
 use borrow.Author.Needs.{needs}
 use Rattle.writer.proofs.put_count.Statement.{statement}
 use Rattle.writer.proofs.put_count.Tie as tie
@@ -17,7 +20,7 @@ put-number-requires c κs = search needs
 
 -- src/lib.rt:146:5
 put-requires : tie.Need-put-requires
-put-requires c κs = ?
+put-requires c κs = let d = decimal-length (c .before .before .before .before .before .before .before .before .before .before .before .args .n) in let e = c .before .before .before .before .before .before .before .put-text .ensures .moves in let f = c .before .before .before .put-number .ensures .moves in omega arith
 
 -- src/lib.rt:139:1
 same-length : tie.Need-same-length
@@ -25,7 +28,7 @@ same-length c = search needs
 
 -- src/lib.rt:139:1
 returns : tie.Need-returns
-returns c = ?
+returns c = let d = decimal-length (c .before .before .before .before .before .before .before .before .before .before .before .before .before .before .args .n) in let e = c .before .before .before .before .before .before .before .before .before .before .put-text .ensures .moves in let f = c .before .before .before .before .before .before .put-number .ensures .moves in let g = c .before .before .put .ensures .moves in (wrote-more (wrote-more (c .before .before .before .before .before .before .before .before .before .before .put-text .ensures) (c .before .before .before .before .before .before .put-number .ensures)) (c .before .before .put .ensures), omega arith)
 
 pub put-count-spec : {M : Type 1} → statement M
 put-count-spec =

@@ -1,3 +1,7 @@
+use Rattle.writer.proofs.Writing.{wrote-more, words-length, row-length}
+use denote.Ref.{now}
+use lib.ListN.{take, drop}
+use native.Mathlib.Omega.{arith}
 use borrow.Author.Needs.{needs}
 use Rattle.writer.proofs.put_row.Statement.{statement}
 use Rattle.writer.proofs.put_row.Tie as tie
@@ -17,7 +21,7 @@ put-words-requires c κs = search needs
 
 -- src/lib.rt:157:5
 put-requires : tie.Need-put-requires
-put-requires c κs = ?
+put-requires c κs = let w = words-length (take (c .before .before .before .before .before .before .before .before .before .before .before .before .args .width) (drop (c .before .before .before .before .before .before .before .before .before .before .before .before .args .first) (now (c .before .before .before .before .before .before .before .before .before .before .before .before .args .table)))) in let l = row-length (now (c .before .before .before .before .before .before .before .before .before .before .before .before .args .table)) (c .before .before .before .before .before .before .before .before .before .before .before .before .args .first) (c .before .before .before .before .before .before .before .before .before .before .before .before .args .width) (omega arith) in let e = c .before .before .before .before .before .before .before .put-text .ensures .moves in let f = c .before .before .before .put-words .ensures .moves in omega arith
 
 -- src/lib.rt:150:1
 same-length : tie.Need-same-length
@@ -25,7 +29,7 @@ same-length c = search needs
 
 -- src/lib.rt:150:1
 returns : tie.Need-returns
-returns c = ?
+returns c = let w = words-length (take (c .before .before .before .before .before .before .before .before .before .before .before .before .before .before .before .args .width) (drop (c .before .before .before .before .before .before .before .before .before .before .before .before .before .before .before .args .first) (now (c .before .before .before .before .before .before .before .before .before .before .before .before .before .before .before .args .table)))) in let l = row-length (now (c .before .before .before .before .before .before .before .before .before .before .before .before .before .before .before .args .table)) (c .before .before .before .before .before .before .before .before .before .before .before .before .before .before .before .args .first) (c .before .before .before .before .before .before .before .before .before .before .before .before .before .before .before .args .width) (omega arith) in let e = c .before .before .before .before .before .before .before .before .before .before .put-text .ensures .moves in let f = c .before .before .before .before .before .before .put-words .ensures .moves in let g = c .before .before .put .ensures .moves in (wrote-more (wrote-more (c .before .before .before .before .before .before .before .before .before .before .put-text .ensures) (c .before .before .before .before .before .before .put-words .ensures)) (c .before .before .put .ensures), omega arith)
 
 pub put-row-spec : {M : Type 1} → statement M
 put-row-spec =

@@ -1,3 +1,6 @@
+use Rattle.writer.proofs.Writing.{wrote-as, word-largest, word-number}
+use mathlib.Core.Path.{sym}
+use native.Mathlib.Omega.{arith}
 use borrow.Author.Needs.{needs}
 use Rattle.writer.proofs.put_word.Statement.{statement}
 use Rattle.writer.proofs.put_word.Tie as tie
@@ -16,7 +19,7 @@ same-length c = search needs
 
 -- src/lib.rt:66:9
 returns : tie.Need-returns
-returns c = ?
+returns c = wrote-as (sym (word-largest (c .before .before .before .before .before .before .args .w) (omega arith))) (c .before .before .put .ensures)
 
 -- src/lib.rt:68:5
 put-number-requires : tie.Need-put-number-requires
@@ -28,7 +31,7 @@ same-length-2 c = search needs
 
 -- src/lib.rt:61:1
 returns-2 : tie.Need-returns-2
-returns-2 c = ?
+returns-2 c = wrote-as (sym (word-number (c .before .before .before .before .before .before .args .w) (λ e. omega arith))) (c .before .before .put-number .ensures)
 
 pub put-word-spec : {M : Type 1} → statement M
 put-word-spec =

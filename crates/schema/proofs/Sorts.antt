@@ -1,0 +1,71 @@
+-- In a table that keeps the rule of rows: a definition is a row of kind element, start is the last row, and a name class of a row is a child.
+use mathlib.Core.Path.{_≡_}
+use mathlib.Core.Bool.{true, _&&_, false≢true, and-false}
+use mathlib.Core.List.{List}
+use Prim.Native.Nat.{ℕ, _+_, _<_}
+use lib.Dec.{leb, eqb}
+use borrow.Author.Tests.{eq-eqb, eqb-true}
+use Rattle.schema.specs.Kinds as kind
+use Rattle.schema.specs.Rows.{rowsOf, kindOf, aOf, bOf, shapeOf, sortOf, isElement, namesA}
+use Rattle.schema.specs.RowRule.{fieldRight, sortRight, usesBelow, RowsRight}
+use Rattle.schema.specs.declared.Sort.{Sort}
+use Rattle.schema.specs.declared.Sort.the-variants.{Pattern, NameClass, Element, Start, Bad}
+use Rattle.schema.specs.declared.Shape.{Shape}
+use Rattle.schema.specs.declared.Field.the-variants.{AClass}
+use Rattle.schema.proofs.Fields.{and-both, either-shape, row-right, both-fields}
+
+-- of some sorts there is one kind only
+data KindOf (k : ℕ) : Sort → Type 0 where
+  of-pattern : KindOf k Pattern
+  of-class : KindOf k NameClass
+  of-element : k ≡ kind.element → KindOf k Element
+  of-start : k ≡ kind.start → KindOf k Start
+  of-bad : KindOf k Bad
+
+kind-of : (k : ℕ) → KindOf k (shapeOf k .sort)
+unfolding shapeOf
+kind-of k =
+    either-shape P (leb 1 k && leb k 3) (λ e. of-pattern) (λ e₁.
+    either-shape P (leb 10 k && leb k 12) (λ e. of-pattern) (λ e₂.
+    either-shape P (eqb k 4) (λ e. of-pattern) (λ e₃.
+    either-shape P (eqb k 5) (λ e. of-pattern) (λ e₄.
+    either-shape P (eqb k 7) (λ e. of-pattern) (λ e₅.
+    either-shape P (eqb k 8) (λ e. of-pattern) (λ e₆.
+    either-shape P (eqb k 9) (λ e. of-pattern) (λ e₇.
+    either-shape P (eqb k 16) (λ e. of-class) (λ e₈.
+    either-shape P (eqb k 17) (λ e. of-class) (λ e₉.
+    either-shape P (eqb k 18) (λ e. of-class) (λ e₁₀.
+    either-shape P (eqb k 19) (λ e. of-class) (λ e₁₁.
+    either-shape P (eqb k 20) (λ e. of-element (eqb-true _ _ e)) (λ e₁₂.
+    either-shape P (eqb k 21) (λ e. of-start (eqb-true _ _ e)) (λ e₁₃. of-bad)))))))))))))
+  where
+    P : Shape → Type 0
+    P shape = KindOf k (shape .sort)
+
+is-definition : {k : ℕ} {x : Sort} → KindOf k x → isElement x ≡ true → k ≡ kind.element
+is-definition of-pattern e = absurd (false≢true e)
+is-definition of-class e = absurd (false≢true e)
+is-definition (of-element f) e = f
+is-definition (of-start f) e = absurd (false≢true e)
+is-definition of-bad e = absurd (false≢true e)
+
+pub definition-kind : (s : List ℕ) (d : ℕ) → isElement (sortOf s d) ≡ true → kindOf s d ≡ kind.element
+definition-kind s d e = is-definition (kind-of (kindOf s d)) e
+
+-- the last row can only be start
+is-start : {k : ℕ} {x : Sort} (uses : ℕ) → KindOf k x → sortRight x uses true ≡ true → k ≡ kind.start
+is-start uses of-pattern e = absurd (false≢true (rw (and-false (eqb uses 1)) at e))
+is-start uses of-class e = absurd (false≢true (rw (and-false (eqb uses 1)) at e))
+is-start uses (of-element f) e = absurd (false≢true e)
+is-start uses (of-start f) e = f
+is-start uses of-bad e = absurd (false≢true e)
+
+module _ (strings : ℕ) (s : List ℕ) (right : RowsRight strings s) (r : ℕ) (h : r < rowsOf s) where
+  pub last-kind : r + 1 ≡ rowsOf s → kindOf s r ≡ kind.start
+  last-kind e =
+      let fields = fieldRight strings s r (shapeOf (kindOf s r) .a) (aOf s r) && fieldRight strings s r (shapeOf (kindOf s r) .b) (bOf s r) in
+      let t = and-both fields (sortRight (sortOf s r) (usesBelow s r (rowsOf s)) (eqb (r + 1) (rowsOf s))) (row-right strings s right r h) .1 in
+      is-start (usesBelow s r (rowsOf s)) (kind-of (kindOf s r)) (rw (eq-eqb (r + 1) (rowsOf s) e) at t)
+
+  pub class-a : (k : ℕ) → kindOf s r ≡ k → shapeOf k .a ≡ AClass → namesA s r ≡ true
+  class-a k e f = rw (e, f) (rw (e, f) at (both-fields strings s right r h .0))
