@@ -1,1 +1,3 @@
+pub mod Job
+pub mod Lines
 pub mod Writing

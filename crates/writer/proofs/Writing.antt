@@ -2,15 +2,17 @@
 use mathlib.Core.Path.{_≡_, refl, sym, _∙_, ap, ap₂}
 use mathlib.Core.Logic.{_≢_}
 use mathlib.Core.List.{List, [], _∷_, _++_, append-assoc}
-use Prim.Native.Nat.{ℕ, zero, suc, _+_, _*_, _/_, _%_, _≤_, _<_}
+use Prim.Native.Nat.{ℕ, zero, suc, _+_, _-_, _*_, _/_, _%_, _≤_, _<_}
 use native.Mathlib.Omega.{arith}
-use native.Mathlib.Nat.{add-zero}
+use native.Mathlib.Nat.{add-zero, le-trans, min-le-right}
 use native.Mathlib.Numerals.{add-one}
-use lib.ListN.{length, take, drop, getD, set, length-append, length-drop}
+use lib.ListN.{length, take, drop, getD, set, length-append, length-take, length-drop}
 use lib.Seq.{sets, set-out, length-sets, take-suc, take-all, length-take-le, getD-take, getD-drop}
+use Rattle.strings.specs.Strings.{startOf, endOf, textOf}
 use borrow.Author.Tests.{eq-eqb, ne-eqb}
 use Rattle.jobs.specs.Numbers.{largestWord, decimal, wordText, wordsText, hexDigit, hexText}
 use Rattle.jobs.proofs.Decimals.{word-length}
+use Rattle.writer.specs.Promises.{TableFault, too-many-rows, broken-length}
 use Rattle.writer.specs.Writing.{Wrote}
 
 pub sets-append : (l : List ℕ) (i : ℕ) (a b : List ℕ) → sets (sets l i a) (i + length a) b ≡ sets l i (a ++ b)
@@ -107,3 +109,16 @@ module _ (table : List ℕ) (first width : ℕ) (h : first + width ≤ length ta
       front-more f (omega arith)
       (words-append (take j row) (getD row j 0) (omega arith) ∙ ap (λ (x : ℕ). wordsText (take j row) ++ 44 ∷ wordText x) (row-word j l))
       (wrote-more w v)
+
+-- no text is longer than all bytes
+pub text-length : (bytes ends : List ℕ) (k : ℕ) → length (textOf bytes ends k) ≤ length bytes
+text-length bytes ends k =
+    let d = length-drop (startOf ends k) bytes in
+    let t = length-take (endOf ends k - startOf ends k) (drop (startOf ends k) bytes) in
+    let m = min-le-right (endOf ends k - startOf ends k) (length (drop (startOf ends k) bytes)) in
+    rw t (le-trans m (omega arith))
+
+-- a table that keeps its limit and is whole has no fault
+pub table-fine : {width limit : ℕ} {table : List ℕ} {place : ℕ} → length table % width ≡ 0 → length table / width ≤ limit → ¬ TableFault width limit table place
+table-fine e h (too-many-rows f z) = omega arith
+table-fine e h (broken-length f z) = f e

@@ -114,6 +114,7 @@ fn put_words(out: &mut [u8], at: usize, table: &[u32], first: usize, width: usiz
 fn put_string(out: &mut [u8], at: usize, bytes: &[u8], ends: &[u32], k: usize) -> usize
     requires { ⌜ (length (now bytes) ≤ maxBytes) × (at + 40000 < far) ⌝ }
     ensures { λ r. ⌜ Wrote (now (out .entry)) at ((ascii "s=" ++ hexText (textOf (now (bytes .entry)) (now (ends .entry)) k)) ++ lineFeed ∷ []) (now (out .exit)) r ⌝ }
+    ensures near { λ r. ⌜ r ≤ at + 40000 ⌝ }
 {
     let p = put_text(out, at, b"s=");
     let q = put_hex(out, p, strings::text(bytes, ends, k));
@@ -147,7 +148,14 @@ fn put_count(out: &mut [u8], at: usize, key: &[u8], n: u32) -> usize
 }
 
 // The line of a row.
-fn put_row(out: &mut [u8], at: usize, key: &[u8], table: &[u32], first: usize, width: usize) -> usize
+fn put_row(
+    out: &mut [u8],
+    at: usize,
+    key: &[u8],
+    table: &[u32],
+    first: usize,
+    width: usize,
+) -> usize
     requires { ⌜ (0 < width) × (width ≤ 5) × (first + width ≤ length (now table)) × (length (now key) ≤ 5) × (at + 200 < far) ⌝ }
     ensures { λ r. ⌜ Wrote (now (out .entry)) at ((now (key .entry) ++ wordsText (take width (drop first (now (table .entry))))) ++ lineFeed ∷ []) (now (out .exit)) r ⌝ }
     ensures near { λ r. ⌜ r ≤ at + 100 ⌝ }
@@ -158,7 +166,14 @@ fn put_row(out: &mut [u8], at: usize, key: &[u8], table: &[u32], first: usize, w
 }
 
 // The lines of all rows of a table.
-fn put_rows(out: &mut [u8], at: usize, key: &[u8], table: &[u32], width: usize, rows: usize) -> usize
+fn put_rows(
+    out: &mut [u8],
+    at: usize,
+    key: &[u8],
+    table: &[u32],
+    width: usize,
+    rows: usize,
+) -> usize
     requires { ⌜ (0 < width) × (width ≤ 5) × (length (now table) ≡ rows * width) × (length (now key) ≤ 5) × (rows ≤ 1024) × (at ≤ 100000000) ⌝ }
     ensures { λ r. ⌜ Wrote (now (out .entry)) at (textOfLines (rowLines (now (key .entry)) width rows (now (table .entry)))) (now (out .exit)) r ⌝ }
     ensures near { λ r. ⌜ r ≤ at + 102400 ⌝ }
@@ -218,7 +233,13 @@ fn refuse(out: &mut [u8], verdict: Verdict) -> JobWritten
 }
 
 // The four tables of a job as text in a lent output: codes 1, 2, 9 and 12.
-pub fn write_job(bytes: &[u8], ends: &[u32], schema: &[u32], instance: &[u32], out: &mut [u8]) -> JobWritten
+pub fn write_job(
+    bytes: &[u8],
+    ends: &[u32],
+    schema: &[u32],
+    instance: &[u32],
+    out: &mut [u8],
+) -> JobWritten
     ensures { λ r. ⌜ WriteJob (now (bytes .entry)) (now (ends .entry)) (now (schema .entry)) (now (instance .entry)) (length (now (out .entry))) (now (out .exit)) r ⌝ }
 {
     let strings = strings::check_strings(bytes, ends);

@@ -1,20 +1,20 @@
-use Rattle.writer.proofs.Writing.{wrote-more, wrote-length, wrote-as}
+-- The digits of a tenth, then the last digit.
+use Prim.Native.Nat.{_<_, ℕ, _+_, _/_, _%_}
 use Rattle.jobs.proofs.Decimals.{decimal-short, decimal-long, decimal-length}
 use Rattle.jobs.specs.Numbers.{decimal}
-use lib.ListN.{length, length-append}
-use mathlib.Core.List.{[], _∷_}
-use mathlib.Core.Path.{_≡_, ap, sym, _∙_}
-use Prim.Native.Nat.{ℕ, _+_, _/_, _%_, _<_}
-use native.Mathlib.Omega.{arith}
-use Prim.Native.Nat.{ℕ, _<_}
+use Rattle.writer.proofs.+put_number.Lts-put_number as put-number-lts
+use Rattle.writer.proofs.+put_number.Tie.{close}
+use Rattle.writer.proofs.+put_number.{statement}
+use Rattle.writer.proofs.Writing.{wrote-more, wrote-length, wrote-as}
+use Rattle.writer.proofs.put.Reads as put-reads
+use Rattle.writer.proofs.put_number.Kinds as put-number-kinds
+use Rattle.writer.proofs.put_number.Reads as put-number
 use borrow.Fn.Kinds.{In}
 use borrow.Fn.PlainCycle.{Measures, is, falls, and}
-use Rattle.writer.proofs.put_number.Reads as put-number
-use Rattle.writer.proofs.put_number.Kinds as put-number-kinds
-use Rattle.writer.proofs.+put_number.Lts-put_number as put-number-lts
-use Rattle.writer.proofs.put.Reads as put-reads
-use Rattle.writer.proofs.+put_number.{statement}
-use Rattle.writer.proofs.+put_number.Tie.{close}
+use lib.ListN.{length, length-append}
+use mathlib.Core.List.{[], _∷_}
+use mathlib.Core.Path.{ap, sym, _∙_}
+use native.Mathlib.Omega.{arith}
 
 abbrev μ-put-number : Measures 1 put-number-kinds.ps ℕ
 μ-put-number κs a = a .1 .1 .0
@@ -27,7 +27,6 @@ abbrev put-number-below : ℕ → In 1 put-number-kinds.ps
 put-number-below t =
     and 1 put-number-kinds.ps (falls 1 put-number-kinds.ps _<_ μ-put-number t) put-number.Pre
 
--- src/lib.rt:52:23
 put-number-add-put : (t : ℕ) → put-number-lts.Need-add-put (
   put-reads.Asked,
   put-reads.Learnt,
@@ -36,7 +35,6 @@ put-number-add-put : (t : ℕ) → put-number-lts.Need-add-put (
 ) (put-number-at t) put-number.Post
 put-number-add-put t c = omega arith
 
--- src/lib.rt:52:22
 put-number-cast-put : (t : ℕ) → put-number-lts.Need-cast-put (
   put-reads.Asked,
   put-reads.Learnt,
@@ -45,7 +43,6 @@ put-number-cast-put : (t : ℕ) → put-number-lts.Need-cast-put (
 ) (put-number-at t) put-number.Post
 put-number-cast-put t c = omega arith
 
--- src/lib.rt:52:9
 put-number-put-requires : (t : ℕ) → put-number-lts.Need-put-requires (
   put-reads.Asked,
   put-reads.Learnt,
@@ -54,7 +51,6 @@ put-number-put-requires : (t : ℕ) → put-number-lts.Need-put-requires (
 ) (put-number-at t) put-number.Post
 put-number-put-requires t c κs = omega arith
 
--- src/lib.rt:54:13
 put-number-put-number-requires : (t : ℕ) → put-number-lts.Need-put-number-requires (
   put-reads.Asked,
   put-reads.Learnt,
@@ -63,7 +59,6 @@ put-number-put-number-requires : (t : ℕ) → put-number-lts.Need-put-number-re
 ) (put-number-at t) put-number.Post
 put-number-put-number-requires t c κs = (omega arith, omega arith)
 
--- src/lib.rt:55:22
 put-number-add-put-2 : (t : ℕ) → put-number-lts.Need-add-put-2 (
   put-reads.Asked,
   put-reads.Learnt,
@@ -72,7 +67,6 @@ put-number-add-put-2 : (t : ℕ) → put-number-lts.Need-add-put-2 (
 ) (put-number-at t) put-number.Post
 put-number-add-put-2 t c = omega arith
 
--- src/lib.rt:55:21
 put-number-cast-put-2 : (t : ℕ) → put-number-lts.Need-cast-put-2 (
   put-reads.Asked,
   put-reads.Learnt,
@@ -81,7 +75,6 @@ put-number-cast-put-2 : (t : ℕ) → put-number-lts.Need-cast-put-2 (
 ) (put-number-at t) put-number.Post
 put-number-cast-put-2 t c = omega arith
 
--- src/lib.rt:55:9
 put-number-put-requires-2 : (t : ℕ) → put-number-lts.Need-put-requires-2 (
   put-reads.Asked,
   put-reads.Learnt,
@@ -90,7 +83,6 @@ put-number-put-requires-2 : (t : ℕ) → put-number-lts.Need-put-requires-2 (
 ) (put-number-at t) put-number.Post
 put-number-put-requires-2 t c κs = let m = c .before .before .before .put-number .ensures .moves in let e = ap length (decimal-long (c .before .before .before .before .before .before .before .args .n) (omega arith) (omega arith)) ∙ length-append (decimal (c .before .before .before .before .before .before .before .args .n / 10)) ((48 + c .before .before .before .before .before .before .before .args .n % 10) ∷ []) in let d = decimal-length (c .before .before .before .before .before .before .before .args .n) in omega arith
 
--- src/lib.rt:47:1
 put-number-same-length : (t : ℕ) → put-number-lts.Need-same-length (
   put-reads.Asked,
   put-reads.Learnt,
@@ -99,7 +91,6 @@ put-number-same-length : (t : ℕ) → put-number-lts.Need-same-length (
 ) (put-number-at t) put-number.Post
 put-number-same-length t c = wrote-length (c .before .before .put .ensures)
 
--- src/lib.rt:47:1
 put-number-returns : (t : ℕ) → put-number-lts.Need-returns (
   put-reads.Asked,
   put-reads.Learnt,
@@ -108,7 +99,6 @@ put-number-returns : (t : ℕ) → put-number-lts.Need-returns (
 ) (put-number-at t) put-number.Post
 put-number-returns t c = wrote-as (sym (decimal-short (c .before .before .before .before .before .before .args .n) (omega arith))) (c .before .before .put .ensures)
 
--- src/lib.rt:47:1
 put-number-same-length-2 : (t : ℕ) → put-number-lts.Need-same-length-2 (
   put-reads.Asked,
   put-reads.Learnt,
@@ -117,7 +107,6 @@ put-number-same-length-2 : (t : ℕ) → put-number-lts.Need-same-length-2 (
 ) (put-number-at t) put-number.Post
 put-number-same-length-2 t c = wrote-length (c .before .before .put2 .ensures) ∙ wrote-length (c .before .before .before .before .before .before .put-number .ensures)
 
--- src/lib.rt:47:1
 put-number-returns-2 : (t : ℕ) → put-number-lts.Need-returns-2 (
   put-reads.Asked,
   put-reads.Learnt,

@@ -1,28 +1,26 @@
-use borrow.Author.Needs.{needs}
+-- The place of a table's fault is 0.
+use Rattle.writer.proofs.Writing.{table-fine}
 use Rattle.writer.proofs.check_table.Statement.{statement}
 use Rattle.writer.proofs.check_table.Tie as tie
-use Rattle.writer.proofs.check_table.Reads as reads
-use Rattle.writer.proofs.check_table.Lts as lts
+use Rattle.writer.specs.Promises.{too-many-rows, broken-length}
+use borrow.Author.Needs.{needs}
+use mathlib.Core.Path.{refl}
+use native.Mathlib.Omega.{arith}
 
--- src/lib.rt:199:8
 rem-if1 : tie.Need-rem-if1
 rem-if1 c = search needs
 
--- src/lib.rt:200:9
 returns : tie.Need-returns
-returns c = ?
+returns c = (broken-length (λ e. omega arith) refl, λ i h f. absurd (omega arith))
 
--- src/lib.rt:202:16
 div-if2 : tie.Need-div-if2
 div-if2 c = search needs
 
--- src/lib.rt:203:9
 returns-2 : tie.Need-returns-2
-returns-2 c = ?
+returns-2 c = (too-many-rows (omega arith) refl, λ i h f. absurd (omega arith))
 
--- src/lib.rt:195:1
 returns-3 : tie.Need-returns-3
-returns-3 c = ?
+returns-3 c = λ i f. table-fine (omega arith) (omega arith) f
 
 pub check-table-spec : {M : Type 1} → statement M
 check-table-spec = tie.close (tie.spec rem-if1 returns div-if2 returns-2 returns-3)

@@ -1,20 +1,15 @@
-use lib.ListN.{length, take, getD}
+-- The bytes before i are written, two digits each.
+use Prim.Native.Nat.{_-_}
 use Rattle.jobs.specs.Numbers.{hexText}
-use borrow.Author.Needs.{needs}
-use mathlib.Core.List.{[], _∷_}
-use denote.Ref.{now}
 use Rattle.writer.proofs.Writing.{Front, wrote-none, wrote-more, wrote-length, wrote-as, hex-append, hex-length, front-more, front-done}
-use lib.Seq.{length-take-le}
-use lib.ListN.{length, take}
-use mathlib.Core.Path.{_≡_, refl, ap}
-use Prim.Native.Nat.{ℕ, _+_, _-_, _≤_, _<_}
-use native.Mathlib.Omega.{arith}
 use Rattle.writer.proofs.put_hex.Statement.{statement}
 use Rattle.writer.proofs.put_hex.Tie as tie
-use Rattle.writer.proofs.put_hex.Reads as reads
-use Rattle.writer.proofs.put_hex.Lts as lts
-use Rattle.writer.proofs.hex_digit.Reads as hex-digit-reads
-use Rattle.writer.proofs.put.Reads as put-reads
+use denote.Ref.{now}
+use lib.ListN.{length, take, getD}
+use lib.Seq.{length-take-le}
+use mathlib.Core.List.{[], _∷_}
+use mathlib.Core.Path.{ap}
+use native.Mathlib.Omega.{arith}
 
 abbrev Inv-loop : tie.InvT-loop
 Inv-loop out₀ at text i₀ p₀ out i p = Front hexText out₀ at text out i p
@@ -22,47 +17,36 @@ Inv-loop out₀ at text i₀ p₀ out i p = Front hexText out₀ at text out i p
 abbrev μ-loop : tie.MeasureT-loop
 μ-loop out₀ at text i₀ p₀ out i p = length text - i
 
--- src/lib.rt:85:5
 loop-holds : tie.Need-loop-holds Inv-loop μ-loop
 loop-holds c = record { wrote = wrote-none _ _; within = omega arith }
 
--- src/lib.rt:86:17
 shared-slice-read-b : tie.Need-shared-slice-read-b Inv-loop μ-loop
 shared-slice-read-b c = omega arith
 
--- src/lib.rt:87:29
 hex-digit-requires : tie.Need-hex-digit-requires Inv-loop μ-loop
 hex-digit-requires c κs = let f = c .before .shared-slice-known2 .given (c .before .before .before .loop .i) in omega arith
 
--- src/lib.rt:87:13
 put-requires : tie.Need-put-requires Inv-loop μ-loop
 put-requires c κs = let f = c .before .before .before .before .loop .inv in let m = f .wrote .moves in let l = length-take-le (c .before .before .before .before .loop .i) (now (c .before .before .before .before .before .before .before .args .text)) (f .within) in let h = hex-length (take (c .before .before .before .before .loop .i) (now (c .before .before .before .before .before .before .before .args .text))) in omega arith
 
--- src/lib.rt:88:25
 hex-digit-requires-2 : tie.Need-hex-digit-requires-2 Inv-loop μ-loop
 hex-digit-requires-2 c κs = omega arith
 
--- src/lib.rt:88:9
 put-requires-2 : tie.Need-put-requires-2 Inv-loop μ-loop
 put-requires-2 c κs = let e = c .before .before .before .before .put .ensures .moves in let f = c .before .before .before .before .before .before .before .before .before .loop .inv in let m = f .wrote .moves in let l = length-take-le (c .before .before .before .before .before .before .before .before .before .loop .i) (now (c .before .before .before .before .before .before .before .before .before .before .before .before .args .text)) (f .within) in let h = hex-length (take (c .before .before .before .before .before .before .before .before .before .loop .i) (now (c .before .before .before .before .before .before .before .before .before .before .before .before .args .text))) in omega arith
 
--- src/lib.rt:89:9
 add-i : tie.Need-add-i Inv-loop μ-loop
 add-i c = let f = c .before .before .before .before .before .before .before .before .before .before .before .before .loop .inv .within in omega arith
 
--- src/lib.rt:85:5
 loop-less : tie.Need-loop-less Inv-loop μ-loop
 loop-less c = omega arith
 
--- src/lib.rt:85:5
 loop-again : tie.Need-loop-again Inv-loop μ-loop
 loop-again c = front-more (c .before .before .before .before .before .before .before .before .before .before .before .before .loop .inv) (omega arith) (hex-append (take (c .before .before .before .before .before .before .before .before .before .before .before .before .loop .i) (now (c .before .before .before .before .before .before .before .before .before .before .before .before .before .before .before .args .text))) (getD (now (c .before .before .before .before .before .before .before .before .before .before .before .before .before .before .before .args .text)) (c .before .before .before .before .before .before .before .before .before .before .before .before .loop .i) 0)) (wrote-more (wrote-as (ap (λ d. d ∷ []) (c .before .before .before .before .before .before .before .before .hex-digit .ensures)) (c .before .before .before .before .before .before .before .put .ensures)) (wrote-as (ap (λ d. d ∷ []) (c .before .before .before .hex-digit2 .ensures)) (c .before .before .put2 .ensures)))
 
--- src/lib.rt:79:1
 same-length : tie.Need-same-length Inv-loop μ-loop
 same-length c = wrote-length (c .before .loop .inv .wrote)
 
--- src/lib.rt:79:1
 returns : tie.Need-returns Inv-loop μ-loop
 returns c = front-done (c .before .loop .inv) (omega arith)
 

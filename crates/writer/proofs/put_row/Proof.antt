@@ -1,33 +1,24 @@
+-- Key, words, line feed.
 use Rattle.writer.proofs.Writing.{wrote-more, words-length, row-length}
+use Rattle.writer.proofs.put_row.Statement.{statement}
+use Rattle.writer.proofs.put_row.Tie as tie
+use borrow.Author.Needs.{needs}
 use denote.Ref.{now}
 use lib.ListN.{take, drop}
 use native.Mathlib.Omega.{arith}
-use borrow.Author.Needs.{needs}
-use Rattle.writer.proofs.put_row.Statement.{statement}
-use Rattle.writer.proofs.put_row.Tie as tie
-use Rattle.writer.proofs.put_row.Reads as reads
-use Rattle.writer.proofs.put_row.Lts as lts
-use Rattle.writer.proofs.put.Reads as put-reads
-use Rattle.writer.proofs.put_text.Reads as put-text-reads
-use Rattle.writer.proofs.put_words.Reads as put-words-reads
 
--- src/lib.rt:155:9
 put-text-requires : tie.Need-put-text-requires
 put-text-requires c κs = search needs
 
--- src/lib.rt:156:9
 put-words-requires : tie.Need-put-words-requires
 put-words-requires c κs = search needs
 
--- src/lib.rt:157:5
 put-requires : tie.Need-put-requires
 put-requires c κs = let w = words-length (take (c .before .before .before .before .before .before .before .before .before .before .before .before .args .width) (drop (c .before .before .before .before .before .before .before .before .before .before .before .before .args .first) (now (c .before .before .before .before .before .before .before .before .before .before .before .before .args .table)))) in let l = row-length (now (c .before .before .before .before .before .before .before .before .before .before .before .before .args .table)) (c .before .before .before .before .before .before .before .before .before .before .before .before .args .first) (c .before .before .before .before .before .before .before .before .before .before .before .before .args .width) (omega arith) in let e = c .before .before .before .before .before .before .before .put-text .ensures .moves in let f = c .before .before .before .put-words .ensures .moves in omega arith
 
--- src/lib.rt:150:1
 same-length : tie.Need-same-length
 same-length c = search needs
 
--- src/lib.rt:150:1
 returns : tie.Need-returns
 returns c = let w = words-length (take (c .before .before .before .before .before .before .before .before .before .before .before .before .before .before .before .args .width) (drop (c .before .before .before .before .before .before .before .before .before .before .before .before .before .before .before .args .first) (now (c .before .before .before .before .before .before .before .before .before .before .before .before .before .before .before .args .table)))) in let l = row-length (now (c .before .before .before .before .before .before .before .before .before .before .before .before .before .before .before .args .table)) (c .before .before .before .before .before .before .before .before .before .before .before .before .before .before .before .args .first) (c .before .before .before .before .before .before .before .before .before .before .before .before .before .before .before .args .width) (omega arith) in let e = c .before .before .before .before .before .before .before .before .before .before .put-text .ensures .moves in let f = c .before .before .before .before .before .before .put-words .ensures .moves in let g = c .before .before .put .ensures .moves in (wrote-more (wrote-more (c .before .before .before .before .before .before .before .before .before .before .put-text .ensures) (c .before .before .before .before .before .before .put-words .ensures)) (c .before .before .put .ensures), omega arith)
 

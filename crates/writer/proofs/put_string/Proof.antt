@@ -1,40 +1,34 @@
-use borrow.Author.Needs.{needs}
+-- Key, digits, line feed.
+use Rattle.jobs.specs.Numbers.{hexText}
+use Rattle.writer.proofs.Writing.{wrote-more, wrote-as, hex-length, text-length}
 use Rattle.writer.proofs.put_string.Statement.{statement}
 use Rattle.writer.proofs.put_string.Tie as tie
-use Rattle.writer.proofs.put_string.Reads as reads
-use Rattle.writer.proofs.put_string.Lts as lts
-use Rattle.strings.proofs.text.Reads as text-reads
-use Rattle.writer.proofs.put.Reads as put-reads
-use Rattle.writer.proofs.put_hex.Reads as put-hex-reads
-use Rattle.writer.proofs.put_text.Reads as put-text-reads
+use borrow.Author.Needs.{needs}
+use denote.Ref.{now}
+use lib.ListN.{length}
+use mathlib.Core.Path.{ap}
+use native.Mathlib.Omega.{arith}
 
--- src/lib.rt:118:31
 slice-aggregate-put-text : tie.Need-slice-aggregate-put-text
 slice-aggregate-put-text c = search needs
 
--- src/lib.rt:118:9
 put-text-requires : tie.Need-put-text-requires
 put-text-requires c κs = search needs
 
--- src/lib.rt:119:29
 text-requires : tie.Need-text-requires
 text-requires c κs = search needs
 
--- src/lib.rt:119:9
 put-hex-requires : tie.Need-put-hex-requires
-put-hex-requires c κs = ?
+put-hex-requires c κs = let e = c .before .before .before .before .put-text .ensures .moves in let h = ap length (c .text .ensures .holds) in let t = text-length (now (c .before .before .before .before .before .before .before .before .before .before .args .bytes)) (now (c .before .before .before .before .before .before .before .before .before .before .args .ends)) (c .before .before .before .before .before .before .before .before .before .before .args .k) in omega arith
 
--- src/lib.rt:120:5
 put-requires : tie.Need-put-requires
-put-requires c κs = ?
+put-requires c κs = let e = c .before .before .before .before .before .before .before .before .put-text .ensures .moves in let h = ap length (c .before .before .before .before .text .ensures .holds) in let t = text-length (now (c .before .before .before .before .before .before .before .before .before .before .before .before .before .before .args .bytes)) (now (c .before .before .before .before .before .before .before .before .before .before .before .before .before .before .args .ends)) (c .before .before .before .before .before .before .before .before .before .before .before .before .before .before .args .k) in let f = c .before .before .before .put-hex .ensures .moves in let g = hex-length (now (c .before .before .before .before .text .result)) in omega arith
 
--- src/lib.rt:114:1
 same-length : tie.Need-same-length
 same-length c = search needs
 
--- src/lib.rt:114:1
 returns : tie.Need-returns
-returns c = ?
+returns c = let e = c .before .before .before .before .before .before .before .before .before .before .before .put-text .ensures .moves in let h = ap length (c .before .before .before .before .before .before .before .text .ensures .holds) in let t = text-length (now (c .before .before .before .before .before .before .before .before .before .before .before .before .before .before .before .before .before .args .bytes)) (now (c .before .before .before .before .before .before .before .before .before .before .before .before .before .before .before .before .before .args .ends)) (c .before .before .before .before .before .before .before .before .before .before .before .before .before .before .before .before .before .args .k) in let f = c .before .before .before .before .before .before .put-hex .ensures .moves in let g = hex-length (now (c .before .before .before .before .before .before .before .text .result)) in let k = c .before .before .put .ensures .moves in (wrote-more (wrote-more (c .before .before .before .before .before .before .before .before .before .before .before .put-text .ensures) (wrote-as (ap hexText (c .before .before .before .before .before .before .before .text .ensures .holds)) (c .before .before .before .before .before .before .put-hex .ensures))) (c .before .before .put .ensures), omega arith)
 
 pub put-string-spec : {M : Type 1} → statement M
 put-string-spec =

@@ -1,16 +1,13 @@
-use lib.ListN.{length, take, getD}
-use denote.Ref.{now}
-use Rattle.writer.proofs.Writing.{Front, wrote-none, wrote-more, wrote-length, front-more, front-done}
-use lib.Seq.{length-take-le}
-use lib.ListN.{length, take}
-use mathlib.Core.Path.{_≡_, refl}
-use Prim.Native.Nat.{ℕ, _+_, _-_, _≤_, _<_}
-use native.Mathlib.Omega.{arith}
+-- The bytes before i are written.
+use Prim.Native.Nat.{_-_}
+use Rattle.writer.proofs.Writing.{Front, wrote-none, wrote-length, front-more, front-done}
 use Rattle.writer.proofs.put_text.Statement.{statement}
 use Rattle.writer.proofs.put_text.Tie as tie
-use Rattle.writer.proofs.put_text.Reads as reads
-use Rattle.writer.proofs.put_text.Lts as lts
-use Rattle.writer.proofs.put.Reads as put-reads
+use denote.Ref.{now}
+use lib.ListN.{length}
+use lib.Seq.{length-take-le}
+use mathlib.Core.Path.{refl}
+use native.Mathlib.Omega.{arith}
 
 abbrev Inv-loop : tie.InvT-loop
 Inv-loop out₀ at text i₀ p₀ out i p = Front (λ l. l) out₀ at text out i p
@@ -18,35 +15,27 @@ Inv-loop out₀ at text i₀ p₀ out i p = Front (λ l. l) out₀ at text out i
 abbrev μ-loop : tie.MeasureT-loop
 μ-loop out₀ at text i₀ p₀ out i p = length text - i
 
--- src/lib.rt:40:5
 loop-holds : tie.Need-loop-holds Inv-loop μ-loop
 loop-holds c = record { wrote = wrote-none _ _; within = omega arith }
 
--- src/lib.rt:41:25
 shared-slice-read-put : tie.Need-shared-slice-read-put Inv-loop μ-loop
 shared-slice-read-put c = omega arith
 
--- src/lib.rt:41:9
 put-requires : tie.Need-put-requires Inv-loop μ-loop
 put-requires c κs = let f = c .before .before .before .loop .inv in let m = f .wrote .moves in let l = length-take-le (c .before .before .before .loop .i) (now (c .before .before .before .before .before .before .args .text)) (f .within) in omega arith
 
--- src/lib.rt:42:9
 add-i : tie.Need-add-i Inv-loop μ-loop
 add-i c = let f = c .before .before .before .before .before .before .loop .inv .within in omega arith
 
--- src/lib.rt:40:5
 loop-less : tie.Need-loop-less Inv-loop μ-loop
 loop-less c = omega arith
 
--- src/lib.rt:40:5
 loop-again : tie.Need-loop-again Inv-loop μ-loop
 loop-again c = front-more (c .before .before .before .before .before .before .loop .inv) (omega arith) refl (c .before .before .put .ensures)
 
--- src/lib.rt:34:1
 same-length : tie.Need-same-length Inv-loop μ-loop
 same-length c = wrote-length (c .before .loop .inv .wrote)
 
--- src/lib.rt:34:1
 returns : tie.Need-returns Inv-loop μ-loop
 returns c = front-done (c .before .loop .inv) (omega arith)
 

@@ -1,0 +1,88 @@
+-- The promise of the writer, put together from what its steps found and wrote.
+use mathlib.Core.Path.{_≡_, refl, sym, _∙_, ap, subst⁻¹}
+use mathlib.Core.Logic.{_≢_}
+use mathlib.Core.List.{List, _++_}
+use Prim.Native.Nat.{ℕ, zero, suc, _+_, _-_, _%_, _≤_, _<_}
+use native.Mathlib.Omega.{arith}
+use native.Mathlib.Nat.{zero-add, add-comm}
+use lib.ListN.{length, take, drop, length-replicate, replicate-append-replicate}
+use lib.Seq.{sets, sets-eq, take-at, drop-at, take-append-add}
+use Rattle.tables.proofs.Numbers.{not-less}
+use Rattle.tables.specs.Outputs.{zeros, laid}
+use Rattle.tables.specs.Refusals.{refusalOf, Tries, refused, goes-on, Passes}
+use Rattle.tables.specs.declared.Checked.{Checked}
+use Rattle.tables.specs.declared.Checked.the-variants.{Fault}
+use Rattle.tables.specs.declared.Verdict.{Verdict}
+use Rattle.tables.specs.declared.Verdict.the-variants.{Passed, Refused}
+use Rattle.strings.specs.Strings.{StringFault, StringsRight, too-many-strings, too-many-bytes, bad-end, at-front}
+use Rattle.schema.specs.RowRule.{maxRows}
+use Rattle.instance.specs.NodeRule.{maxNodes}
+use Rattle.jobs.specs.Reading.{maxFile}
+use Rattle.jobs.specs.Written.{jobText}
+use Rattle.writer.specs.Promises.{TableFault, too-many-rows, broken-length, TextFault, too-long, too-short, Sized, notWritten, writtenVerdict, WriteJob}
+use Rattle.writer.specs.declared.JobWritten.{JobWritten}
+use Rattle.writer.specs.declared.JobWritten.the-variants.{Written, NotWritten}
+
+is-zero : (n : ℕ) → ¬ (n ≢ 0) → n ≡ 0
+is-zero zero h = refl
+is-zero (suc n) h = absurd (h (λ e. omega arith))
+
+-- a text that fits, put at the front of zeros
+sets-laid : (n : ℕ) (text : List ℕ) → length text ≤ n → sets (zeros n) 0 text ≡ laid n text
+sets-laid n text h =
+    let k : ℕ = n - length text in
+    let e : n ≡ length text + k = omega arith in
+    let z : zeros (length text + k) ≡ zeros (length text) ++ zeros k = sym (replicate-append-replicate (length text) k 0) in
+    let l : length (zeros (length text)) ≡ length text = length-replicate (length text) 0 in
+    subst⁻¹ (λ (m : ℕ). sets (zeros m) 0 text ≡ laid m text) e
+    (sets-eq text (zeros (length text + k)) 0 (let x = length-replicate {A = ℕ} (length text + k) 0 in omega arith)
+    ∙ ap (λ (r : List ℕ). text ++ r) (ap (λ (i : ℕ). drop i (zeros (length text + k))) (zero-add (length text)) ∙ ap (drop (length text)) z ∙ drop-at (zeros (length text)) (zeros k) (length text) l)
+    ∙ sym (take-append-add text (zeros (length text + k)) k
+    ∙ ap (λ (r : List ℕ). text ++ take k r) (ap zeros (add-comm (length text) k) ∙ sym (replicate-append-replicate k (length text) 0))
+    ∙ ap (λ (r : List ℕ). text ++ r) (take-at (zeros k) (zeros (length text)) k (length-replicate k 0))))
+
+module _ (bytes ends schema instance : List ℕ) (room : ℕ) where
+  abbrev pub Chain : Verdict → Type 0
+  Chain = Tries 1 (StringFault bytes ends) (Tries 2 (TableFault 3 maxRows schema) (Tries 9 (TableFault 5 maxNodes instance) (Tries 12 (TextFault (jobText bytes ends schema instance) room) Passes)))
+
+  pub refused-with : {code place : ℕ} {r : JobWritten} {out : List ℕ} → r ≡ NotWritten code place → out ≡ zeros room → Chain (Refused code place) → WriteJob bytes ends schema instance room out r
+  refused-with {code} {place} {r} {out} e z c = record {
+    refusal = subst⁻¹ (λ (x : JobWritten). Chain (writtenVerdict x)) e c;
+    answer = λ p. let q : Refused code place ≡ Passed = sym (ap writtenVerdict e) ∙ p in let y : _≡_ {A = ℕ} 0 1 = cc in absurd (omega arith);
+    written = λ p. let q : Refused code place ≡ Passed = sym (ap writtenVerdict e) ∙ p in let y : _≡_ {A = ℕ} 0 1 = cc in absurd (omega arith);
+    refused = λ code place p. z;
+  }
+
+  pub refused-by : {code place : ℕ} {c : Checked} {v : Verdict} {r : JobWritten} {out : List ℕ} → c ≡ Fault place → v ≡ refusalOf code c → r ≡ notWritten v → out ≡ zeros room
+      → Chain (Refused code place) → WriteJob bytes ends schema instance room out r
+  refused-by {code} e w q = refused-with (q ∙ ap notWritten (w ∙ ap (refusalOf code) e))
+
+  pub accepted : {out : List ℕ} {r : JobWritten} → r ≡ Written (length (jobText bytes ends schema instance)) → length (jobText bytes ends schema instance) ≤ room → out ≡ sets (zeros room) 0 (jobText bytes ends schema instance)
+      → Chain Passed → WriteJob bytes ends schema instance room out r
+  accepted {out} {r} e h w c = record {
+    refusal = subst⁻¹ (λ (x : JobWritten). Chain (writtenVerdict x)) e c;
+    answer = λ p. e;
+    written = λ p. w ∙ sets-laid room (jobText bytes ends schema instance) h;
+    refused = λ code place p. let q : Passed ≡ Refused code place = sym (ap writtenVerdict e) ∙ p in let y : _≡_ {A = ℕ} 0 1 = cc in absurd (omega arith);
+  }
+
+  module _ (strings : StringsRight bytes ends) (rows : (i : ℕ) → ¬ TableFault 3 maxRows schema i) (nodes : (i : ℕ) → ¬ TableFault 5 maxNodes instance i) where
+    pub over : TextFault (jobText bytes ends schema instance) room 0 → Chain (Refused 12 0)
+    over f = goes-on strings (goes-on rows (goes-on nodes (refused 0 f (λ i h x. absurd (omega arith)))))
+
+    pub passes : length (jobText bytes ends schema instance) ≤ maxFile → length (jobText bytes ends schema instance) ≤ room → Chain Passed
+    passes h k = goes-on strings (goes-on rows (goes-on nodes (goes-on fits refl)))
+      where
+        fits : (i : ℕ) → ¬ TextFault (jobText bytes ends schema instance) room i
+        fits i (too-long f e) = omega arith
+        fits i (too-short f e) = omega arith
+
+    pub sized : Sized bytes ends schema instance
+    sized = record {
+      few-bytes = not-less (λ f. strings 0 (bad-end (at-front (too-many-bytes f refl))));
+      few-strings = not-less (λ f. strings 0 (bad-end (at-front (too-many-strings f refl))));
+      few-rows = not-less (λ f. rows 0 (too-many-rows f refl));
+      whole-rows = is-zero (length schema % 3) (λ f. rows 0 (broken-length f refl));
+      few-nodes = not-less (λ f. nodes 0 (too-many-rows f refl));
+      whole-nodes = is-zero (length instance % 5) (λ f. nodes 0 (broken-length f refl));
+    }
