@@ -139,3 +139,12 @@ word-back w h = go (eqb w largestWord) refl
     go : (b : Bool) → eqb w largestWord ≡ b → wordOf (wordText w) ≡ some w
     go true e = let f : w ≡ largestWord = eqb-true w largestWord e in rw f refl
     go false e = let f = eqb-false w largestWord e in rw e (word-decimal w (omega arith))
+
+-- all that is written of a number is digits
+pub all-digits : (k n : ℕ) → allDigits (decimalBy k n) ≡ true
+unfolding decimalBy
+all-digits zero n = refl
+all-digits (suc k) n =
+    ⊎-elim (λ l. rw (by-short k n l, digit-is n l))
+    (λ l. rw (by-more k n l) (digits-append (decimalBy k (n / 10)) ((48 + n % 10) ∷ []) (all-digits k (n / 10)) (rw (digit-is (n % 10) (omega arith)))))
+    (lt-or-ge n 10)

@@ -1,1 +1,4 @@
 pub mod Decimals
+pub mod Job
+pub mod RoundTrip
+pub mod Texts
