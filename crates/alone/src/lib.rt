@@ -1,0 +1,1 @@
+// Which strings match a pattern alone, and which patterns match nothing at all.

@@ -1,0 +1,9 @@
+pub mod Bits
+pub mod Closure
+pub mod Gather
+pub mod Least
+pub mod Leaves
+pub mod Members
+pub mod Ones
+pub mod Rows
+pub mod Words
