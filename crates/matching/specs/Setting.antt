@@ -1,0 +1,46 @@
+-- What the relation of a pattern is, and the setting in which it is computed.
+use Prim.Native.Nat.{ℕ, _<_}
+use mathlib.Core.Path.{_≡_}
+use mathlib.Core.Bool.{true}
+use mathlib.Core.List.{List}
+use lib.ListN.{length}
+use Rattle.schema.specs.Rows.{rowsOf}
+use Rattle.restrictions.proofs.Passes.{SchemaPasses}
+use Rattle.sets.specs.Bits.{positions, bit}
+use Rattle.sets.specs.Relations.{Relation}
+use Rattle.sets.specs.Words.{Is}
+use Rattle.rules.specs.Items.{Item}
+use Rattle.rules.specs.Rules.{NotMatchBy}
+use Rattle.rules.specs.Job.{lookups}
+use Rattle.rules.proofs.Occurrences.{CleanAt}
+use Rattle.rules.proofs.Repeats.{Distinct}
+use Rattle.rules.proofs.Spans.{Span}
+use Rattle.marks.specs.Marks.{attributesIn, Marked}
+
+-- the tables hold, row by row, what the patterns of a schema that passes do with the attributes and items of an element
+pub record Setting (s marks named taken single : List ℕ) : Type 0 where
+  pub bytes : List ℕ
+  pub ends : List ℕ
+  pub t : List ℕ
+  pub passes : SchemaPasses (length ends) s
+  pub element : ℕ
+  pub attributes : ℕ
+  pub it : ℕ → Item
+  pub items : ℕ
+  pub marked : Marked bytes ends s t element attributes it items marks named taken single (rowsOf s)
+
+module _ {s marks named taken single : List ℕ} (S : Setting s marks named taken single) where
+  -- the attributes a and the items k are of the element; no two of the attributes have one name, and no whitespace stands beside an element
+  pub record Asked (a k : ℕ) : Type 0 where
+    pub of-attributes : (x : ℕ) → bit a x ≡ true → x < S .attributes
+    pub of-items : (x : ℕ) → bit k x ≡ true → x < S .items
+    pub distinct : Distinct (lookups (S .bytes) (S .ends) s (S .t)) (attributesIn (S .element) a)
+    pub clean : CleanAt (lookups (S .bytes) (S .ends) s (S .t)) (S .it) (bit k)
+
+  -- i and j are related where the attributes a and the items of k in [i, j) match the pattern at row p
+  abbrev pub Related : ℕ → ℕ → ℕ → Relation
+  Related a k p i j = (j < positions) × Span (lookups (S .bytes) (S .ends) s (S .t)) (NotMatchBy (lookups (S .bytes) (S .ends) s (S .t)) (rowsOf s)) (attributesIn (S .element) a) (S .it) (bit k) p i j
+
+-- the words hold the relation of row p in every such setting
+abbrev pub Answers : (s marks named taken single : List ℕ) (a k p : ℕ) → List ℕ → Type 0
+Answers s marks named taken single a k p words = (S : Setting s marks named taken single) → Asked S a k → p < rowsOf s → Is words (Related S a k p)
