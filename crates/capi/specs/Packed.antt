@@ -11,6 +11,13 @@ use Rattle.strings.specs.Text.{StringText}
 use Rattle.tables.specs.Refusals.{refusalOf, codeOf, placeOf, Passes}
 use Rattle.tables.specs.declared.Verdict.{Verdict}
 use Rattle.instance.specs.Width.{FindsWidth}
+use Rattle.jobs.specs.Reading.{readJob}
+use Rattle.reader.specs.Promises.{Room, readVerdict, readAnswer, given, Holds}
+use Rattle.reader.specs.declared.JobRead.{JobRead}
+use Rattle.reader.specs.declared.JobRead.the-variants.{Read, NotRead}
+use Rattle.writer.specs.Promises.{writtenVerdict, WriteJob}
+use Rattle.writer.specs.declared.JobWritten.{JobWritten}
+use Rattle.writer.specs.declared.JobWritten.the-variants.{Written, NotWritten}
 use Rattle.relaxng.specs.Answers.{membershipVerdict, commonVerdict}
 use Rattle.relaxng.specs.Promises.{SchemaRefusal, NameInClass, LeastCommonName}
 use Rattle.relaxng.specs.declared.Membership.{Membership}
@@ -72,3 +79,26 @@ pub record PackedWidth (t : List ℕ) (r : ℕ) : Type 0 where
   pub answer : Checked
   pub finds : FindsWidth t answer
   pub number : r ≡ packedVerdict (refusalOf 10 answer)
+
+-- an answer of the writer: the refusal, or the length of the text
+abbrev pub packedWritten : JobWritten → ℕ
+packedWritten (Written length) = length
+packedWritten (NotWritten code place) = packedVerdict (writtenVerdict (NotWritten code place))
+
+pub record PackedWrite (bytes ends schema instance : List ℕ) (room : ℕ) (out : List ℕ) (r : ℕ) : Type 0 where
+  pub answer : JobWritten
+  pub promise : WriteJob bytes ends schema instance room out answer
+  pub number : r ≡ packedWritten answer
+
+-- an answer of the reader: the refusal, or 0; and the counts of bytes, strings, schema rows and instance rows
+abbrev pub packedRead : JobRead → ℕ
+packedRead a = packedVerdict (readVerdict a)
+
+abbrev pub readCounts : JobRead → List ℕ
+readCounts (Read bytes strings rows nodes) = bytes ∷ strings ∷ rows ∷ nodes ∷ []
+readCounts (NotRead code place) = []
+
+pub record PackedRead (file : List ℕ) (room : Room) (bytes ends schema instance : List ℕ) (out left : List ℕ) (r : ℕ) : Type 0 where
+  pub number : r ≡ packedRead (readAnswer (readJob file) room)
+  pub tables : Holds (given (readJob file) room) room bytes ends schema instance
+  pub counts : left ≡ laid (length out) (readCounts (readAnswer (readJob file) room))

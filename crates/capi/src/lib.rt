@@ -1,7 +1,9 @@
 // The calls that programs in C or Rust make, the tests among them: numbers and slices alone.
+use reader::JobRead;
 use relaxng::CommonName;
 use relaxng::Membership;
 use tables::Verdict;
+use writer::JobWritten;
 ghost use mathlib.Core.Path.{_≡_};
 ghost use Prim.Native.Nat.{_+_, _*_};
 ghost use lib.ListN.{length};
@@ -9,8 +11,9 @@ ghost use Rattle.tables.specs.Outputs.{laid};
 ghost use Rattle.tables.specs.Answers.{Decides};
 ghost use Rattle.strings.specs.Strings.{StringFault};
 ghost use Rattle.instance.specs.NodeRule.{NodeFault};
+ghost use Rattle.reader.specs.Promises.{roomOf};
 ghost use Rattle.datatypes.specs.Whitespace.{whitespace, stringEqual, tokenEqual};
-ghost use Rattle.capi.specs.Packed.{packedVerdict, packedMembership, packedName, nameWords, PackedCheck, CopiedText, PackedSchema, PackedMember, PackedLeast, PackedWidth};
+ghost use Rattle.capi.specs.Packed.{packedVerdict, packedMembership, packedName, nameWords, PackedCheck, CopiedText, PackedSchema, PackedMember, PackedLeast, PackedWidth, packedWritten, PackedWrite, packedRead, readCounts, PackedRead};
 
 #[no_mangle]
 pub extern "C" fn farshavan_check_strings(bytes: &[u8], ends: &[u32]) -> u64
@@ -149,4 +152,64 @@ pub extern "C" fn farshavan_check_width(instance: &[u32]) -> u64
     ensures { λ r. ⌜ PackedWidth (now (instance .entry)) r ⌝ }
 {
     pack_verdict(tables::refusal(10, instance::check_width(instance)))
+}
+
+fn pack_written(answer: JobWritten) -> u64
+    ensures { λ r. ⌜ r ≡ packedWritten answer ⌝ }
+{
+    match answer {
+        JobWritten::Written(length) => length as u64,
+        JobWritten::NotWritten(code, place) => pack_refusal(code, place),
+    }
+}
+
+#[no_mangle]
+pub extern "C" fn farshavan_write_job(
+    bytes: &[u8],
+    ends: &[u32],
+    schema: &[u32],
+    instance: &[u32],
+    out: &mut [u8],
+) -> u64
+    ensures { λ r. ⌜ PackedWrite (now (bytes .entry)) (now (ends .entry)) (now (schema .entry)) (now (instance .entry)) (length (now (out .entry))) (now (out .exit)) r ⌝ }
+{
+    pack_written(writer::write_job(bytes, ends, schema, instance, out))
+}
+
+fn pack_read(answer: JobRead) -> u64
+    ensures { λ r. ⌜ r ≡ packedRead answer ⌝ }
+{
+    match answer {
+        JobRead::Read(_, _, _, _) => 0,
+        JobRead::NotRead(code, place) => pack_refusal(code, place),
+    }
+}
+
+// The four counts at the front of out, as far as they fit, and zeros after them; all zeros at a refusal.
+fn lay_counts(answer: JobRead, out: &mut [u32])
+    ensures { λ _. ⌜ now (out .exit) ≡ laid (length (now (out .entry))) (readCounts answer) ⌝ }
+{
+    match answer {
+        JobRead::Read(bytes, strings, rows, nodes) => {
+            let words = [bytes, strings, rows, nodes];
+            tables::lay_u32(out, &words);
+        }
+        JobRead::NotRead(_, _) => tables::zero_u32(out),
+    }
+}
+
+#[no_mangle]
+pub extern "C" fn farshavan_read_job(
+    file: &[u8],
+    bytes: &mut [u8],
+    ends: &mut [u32],
+    schema: &mut [u32],
+    instance: &mut [u32],
+    counts: &mut [u32],
+) -> u64
+    ensures { λ r. ⌜ PackedRead (now (file .entry)) (roomOf (now (bytes .entry)) (now (ends .entry)) (now (schema .entry)) (now (instance .entry))) (now (bytes .exit)) (now (ends .exit)) (now (schema .exit)) (now (instance .exit)) (now (counts .entry)) (now (counts .exit)) r ⌝ }
+{
+    let answer = reader::read_job(file, bytes, ends, schema, instance);
+    lay_counts(answer, counts);
+    pack_read(answer)
 }
