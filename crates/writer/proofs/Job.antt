@@ -23,7 +23,7 @@ use Rattle.writer.specs.Promises.{TableFault, too-many-rows, broken-leng
 use Rattle.writer.specs.declared.JobWritten.{JobWritten}
 use Rattle.writer.specs.declared.JobWritten.the-variants.{Written, NotWritten}
 
-is-zero : (n : ℕ) → ¬ (n ≢ 0) → n ≡ 0
+pub is-zero : (n : ℕ) → ¬ (n ≢ 0) → n ≡ 0
 is-zero zero h = refl
 is-zero (suc n) h = absurd (h (λ e. omega arith))
 
