@@ -5,4 +5,5 @@ pub mod Marks
 pub mod Mentions
 pub mod Rules
 pub mod SmallModel
+pub mod SmallNames
 pub mod Trying

@@ -15,6 +15,7 @@ pub mod Reach
 pub mod Repeats
 pub mod Restricted
 pub mod RowPatterns
+pub mod RuleFacts
 pub mod Runs
 pub mod Sequences
 pub mod Spans

@@ -1,0 +1,59 @@
+-- The tables while they are filled, entry by entry and row by row.
+use Prim.Native.Nat.{ℕ, _+_, _*_, _≤_, _<_}
+use mathlib.Core.Path.{_≡_, refl, sym, _∙_, ap, subst}
+use mathlib.Core.Bool.{true}
+use mathlib.Core.List.{List}
+use mathlib.Core.Logic.{_↔_}
+use native.Mathlib.Omega.{arith}
+use borrow.Author.Count.{below-more}
+use lib.ListN.{length, getD, set, length-set}
+use lib.Seq.{getD-set-same, getD-set-other}
+use Rattle.strings.specs.Strings.{textOf, maxStrings}
+use Rattle.datatypes.specs.Whitespace.{whitespace}
+use Rattle.restrictions.proofs.Passes.{SchemaPasses}
+use Rattle.alone.specs.Alone.{entry, TellsString, TellsNothing, Alone}
+use Rattle.alone.specs.Rows.{NothingAt, StringAt, RowFilled}
+
+-- the rows below p are right in any table that has their entries
+alone-kept : {bytes ends s before now nothing : List ℕ} {p : ℕ} → length ends ≤ maxStrings → ((i : ℕ) → i < p * maxStrings → getD now i 0 ≡ getD before i 0) → Alone bytes ends s before nothing p → Alone bytes ends s now nothing p
+alone-kept {bytes} {ends} {s} {before} {now} h f a = record {
+  strings = λ t q k l m. subst (λ (v : ℕ). TellsString bytes ends s t q k v) (sym (f (q * maxStrings + k) (omega arith))) (a .strings t q k l m);
+  empty = a .empty;
+}
+
+pub row-none : {bytes ends s before : List ℕ} {p : ℕ} → RowFilled bytes ends s before before p 0
+row-none = record { size = refl; kept = λ i h. refl; right = λ t k h. absurd (omega arith) }
+
+pub row-more : {bytes ends s before now nothing : List ℕ} {p k v : ℕ} → length ends ≤ maxStrings → k < length ends → p * maxStrings + k < length now → SchemaPasses (length ends) s → Alone bytes ends s before nothing p
+    → StringAt bytes ends s now nothing p k v → RowFilled bytes ends s before now p k → RowFilled bytes ends s before (set now (p * maxStrings + k) v) p (k + 1)
+row-more {bytes} {ends} {s} {before} {now} {nothing} {p} {k} {v} h l i c a d r = record {
+  size = length-set now (p * maxStrings + k) v ∙ r .size;
+  kept = λ j m. getD-set-other now (p * maxStrings + k) j v 0 (λ e. omega arith) ∙ r .kept j m;
+  right = λ t. below-more (λ (j : ℕ). TellsString bytes ends s t p j (entry (set now (p * maxStrings + k) v) p j)) k
+      (λ j m. subst (λ (x : ℕ). TellsString bytes ends s t p j x) (sym (getD-set-other now (p * maxStrings + k) (p * maxStrings + j) v 0 (λ e. omega arith))) (r .right t j m))
+      (subst (λ (x : ℕ). TellsString bytes ends s t p k x) (sym (getD-set-same now (p * maxStrings + k) v 0 i)) (d t c (alone-kept h (r .kept) a) l));
+}
+
+pub rows-none : {bytes ends s alone nothing : List ℕ} → Alone bytes ends s alone nothing 0
+rows-none = record { strings = λ t p k h. absurd (omega arith); empty = λ t p h. absurd (omega arith) }
+
+pub rows-more : {bytes ends s alone after nothing : List ℕ} {p v : ℕ} → length ends ≤ maxStrings → p < length nothing → SchemaPasses (length ends) s → Alone bytes ends s alone nothing p
+    → RowFilled bytes ends s alone after p (length ends) → NothingAt s nothing p v → Alone bytes ends s after (set nothing p v) (p + 1)
+rows-more {bytes} {ends} {s} {alone} {after} {nothing} {p} {v} h i c a r d =
+    let b = alone-kept {now = after} h (r .kept) a in
+    record {
+      strings = λ t q k. below-more (λ (j : ℕ). k < length ends → TellsString bytes ends s t j k (entry after j k)) p (λ j m. b .strings t j k m) (r .right t k) q;
+      empty = λ t. below-more (λ (j : ℕ). TellsNothing bytes ends s t j (getD (set nothing p v) j 0)) p
+          (λ j m. subst (λ (x : ℕ). TellsNothing bytes ends s t j x) (sym (getD-set-other nothing p j v 0 (λ e. omega arith))) (a .empty t j m))
+          (subst (λ (x : ℕ). TellsNothing bytes ends s t p x) (sym (getD-set-same nothing p v 0 i)) (d bytes ends t alone c a));
+    }
+
+-- the first k strings
+abbrev pub BlankTo : List ℕ → List ℕ → List ℕ → ℕ → Type 0
+BlankTo bytes ends blank n = (k : ℕ) → k < n → (getD blank k 0 ≡ 1) ↔ (whitespace (textOf bytes ends k) ≡ true)
+
+pub blank-more : (bytes ends blank : List ℕ) (k v : ℕ) → k < length blank → (v ≡ 1) ↔ (whitespace (textOf bytes ends k) ≡ true) → BlankTo bytes ends blank k → BlankTo bytes ends (set blank k v) (k + 1)
+blank-more bytes ends blank k v i d b =
+    below-more (λ (j : ℕ). (getD (set blank k v) j 0 ≡ 1) ↔ (whitespace (textOf bytes ends j) ≡ true)) k
+    (λ j m. subst (λ (x : ℕ). (x ≡ 1) ↔ (whitespace (textOf bytes ends j) ≡ true)) (sym (getD-set-other blank k j v 0 (λ e. omega arith))) (b j m))
+    (subst (λ (x : ℕ). (x ≡ 1) ↔ (whitespace (textOf bytes ends k) ≡ true)) (sym (getD-set-same blank k v 0 i)) d)

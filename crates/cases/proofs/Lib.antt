@@ -1,0 +1,17 @@
+pub mod Cases
+pub mod Checked
+pub mod ClassTests
+pub mod ClosureTests
+pub mod ContentTests
+pub mod DescentTests
+pub mod InstanceTests
+pub mod Model
+pub mod ModelIsRules
+pub mod ModelParts
+pub mod PairTests
+pub mod PlaceTests
+pub mod ReachTests
+pub mod RestrictionTests
+pub mod SchemaVerdicts
+pub mod StringTests
+pub mod Tests
