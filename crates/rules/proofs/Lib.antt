@@ -1,3 +1,4 @@
+pub mod AllElements
 pub mod Booleans
 pub mod Children
 pub mod ContentTypes
