@@ -1,18 +1,18 @@
--- One word of the closure of a relation that goes up, when the words after it are there.
+-- One word of the closure of a relation that goes up, when the words after it are there; and the loop that closes.
 use mathlib.Core.Path.{_≡_, refl, sym, subst, ap, _∙_}
 use mathlib.Core.Bool.{true}
 use mathlib.Core.List.{List}
 use mathlib.Core.Logic.{⊎-elim}
-use Prim.Native.Nat.{ℕ, _+_, _<_}
+use Prim.Native.Nat.{ℕ, _+_, _≤_, _<_}
 use native.Mathlib.Nat.{eq-or-lt-of-le}
 use native.Mathlib.Omega.{arith}
 use lib.Bits.{bitOr}
-use lib.ListN.{getD}
+use lib.ListN.{length, getD, set, length-set}
 use Rattle.sets.specs.Bits.{positions, bit}
 use Rattle.sets.specs.Relations.{Plus, once, more}
 use Rattle.sets.specs.Words.{Holds, Image, front, Up}
 use Rattle.sets.proofs.Members.{or-has, has-or-l, has-or-r}
-use Rattle.sets.proofs.Words.{front-below, front-at, Row, Written}
+use Rattle.sets.proofs.Words.{front-below, front-at, Row, Written, write-none, write-more}
 
 pub plus-low : (w : List ℕ) (i j : ℕ) → Plus (Holds (front w)) i j → i < positions
 plus-low w i j (once e) = front-below w i j e
@@ -52,3 +52,19 @@ module _ {w₀ w : List ℕ} {i s v : ℕ} (k : ℕ) (g : Written (Plus (Holds (
     sound = λ j t. ⊎-elim (λ a. once (sym (was j) ∙ a)) (λ a. let r = im .sound j a in step (r .0) j (r .1) (r .2)) (or-has s v j t);
     complete = λ j p. reached k j refl p;
   }
+
+-- the words from i on are closed, if the relation goes up
+pub record Closing (w₀ w : List ℕ) (i : ℕ) : Type 0 where
+  pub size : length w ≡ length w₀
+  pub within : i ≤ positions
+  pub closed : Up (Holds (front w₀)) → Written (Plus (Holds (front w₀))) w₀ w i
+
+pub close-none : {w : List ℕ} → positions ≤ length w → Closing w w positions
+close-none l = record { size = refl; within = omega arith; closed = λ up. write-none l }
+
+pub close-more : {w₀ w : List ℕ} {i k s v : ℕ} → Closing w₀ w i → i ≡ k + 1 → s ≡ getD w k 0 → Image s (front w) v → Closing w₀ (set w k (bitOr s v)) k
+close-more {w = w} {k = k} {s = s} {v = v} g e x im = record {
+  size = length-set w k (bitOr s v) ∙ g .size;
+  within = omega (arith, g .within);
+  closed = λ up. write-more (g .closed up) e (plus-row k (g .closed up) up e x im);
+}

@@ -1,4 +1,4 @@
-// Sets of positions in one word, and relations on positions as 64 words.
+// Sets of positions in one word, and relations on positions as 64 words. In fewer words than its relations need a function writes nothing.
 ghost use mathlib.Core.Path.{_≡_};
 ghost use mathlib.Core.Bool.{cond};
 ghost use Prim.Native.Nat.{_^_, _<_, _≤_};
@@ -19,10 +19,9 @@ pub fn has(s: u64, k: u32) -> bool
     false
 }
 
-// The least member of s.
+// The least member of s, if it has one.
 pub fn first(s: u64) -> u32
-    requires { ⌜ 0 < s ⌝ }
-    ensures { λ r. ⌜ Least s r ⌝ }
+    ensures { λ r. ⌜ (0 < s → Least s r) ⌝ }
 {
     u64::trailing_zeros(s)
 }
@@ -35,7 +34,7 @@ pub fn count(s: u64) -> u32
 }
 
 // Word k, 0 past the end.
-fn word(b: &[u64], k: u32) -> u64
+pub fn word(b: &[u64], k: u32) -> u64
     ensures { λ r. ⌜ r ≡ getD (now (b .entry)) k 0 ⌝ }
 {
     if (k as usize) < b.len() {
@@ -60,9 +59,11 @@ pub fn image(s: u64, b: &[u64]) -> u64
 
 // The empty relation.
 pub fn clear(w: &mut [u64])
-    requires { ⌜ 64 ≤ length (now w) ⌝ }
-    ensures { λ _. ⌜ Is (front (now (w .exit))) Empty ⌝ }
+    ensures { λ _. ⌜ (64 ≤ length (now (w .entry)) → Is (front (now (w .exit))) Empty) ⌝ }
 {
+    if w.len() < 64 {
+        return;
+    }
     let mut i: usize = 64;
     while i > 0 {
         i -= 1;
@@ -83,9 +84,11 @@ fn gap_word(stop: u64, i: u32, after: u64) -> u64
 
 // The pairs i, j with no position of stop in [i, j).
 pub fn gaps(stop: u64, w: &mut [u64])
-    requires { ⌜ 64 ≤ length (now w) ⌝ }
-    ensures { λ _. ⌜ Is (front (now (w .exit))) (Gap stop) ⌝ }
+    ensures { λ _. ⌜ (64 ≤ length (now (w .entry)) → Is (front (now (w .exit))) (Gap stop)) ⌝ }
 {
+    if w.len() < 64 {
+        return;
+    }
     let mut gap: u64 = 0;
     let mut i: u32 = 64;
     while i > 0 {
@@ -110,9 +113,11 @@ fn single_word(all: u64, marked: u64, i: u32, gap: u64, single: u64) -> u64
 
 // The pairs i, j with exactly one position of all in [i, j), a marked one.
 pub fn singles(all: u64, marked: u64, w: &mut [u64])
-    requires { ⌜ 64 ≤ length (now w) ⌝ }
-    ensures { λ _. ⌜ Is (front (now (w .exit))) (Single all marked) ⌝ }
+    ensures { λ _. ⌜ (64 ≤ length (now (w .entry)) → Is (front (now (w .exit))) (Single all marked)) ⌝ }
 {
+    if w.len() < 64 {
+        return;
+    }
     let mut gap: u64 = 0;
     let mut single: u64 = 0;
     let mut i: u32 = 64;
@@ -126,9 +131,11 @@ pub fn singles(all: u64, marked: u64, w: &mut [u64])
 
 // The first relation or the next.
 pub fn union(w: &mut [u64])
-    requires { ⌜ 128 ≤ length (now w) ⌝ }
-    ensures { λ _. ⌜ Is (front (now (w .exit))) (Or (Holds (front (now (w .entry)))) (Holds (next (now (w .entry))))) ⌝ }
+    ensures { λ _. ⌜ (128 ≤ length (now (w .entry)) → Is (front (now (w .exit))) (Or (Holds (front (now (w .entry)))) (Holds (next (now (w .entry)))))) ⌝ }
 {
+    if w.len() < 128 {
+        return;
+    }
     let mut i: usize = 64;
     while i > 0 {
         i -= 1;
@@ -138,9 +145,11 @@ pub fn union(w: &mut [u64])
 
 // The first relation and the next, of the same pairs.
 pub fn meet(w: &mut [u64])
-    requires { ⌜ 128 ≤ length (now w) ⌝ }
-    ensures { λ _. ⌜ Is (front (now (w .exit))) (And (Holds (front (now (w .entry)))) (Holds (next (now (w .entry))))) ⌝ }
+    ensures { λ _. ⌜ (128 ≤ length (now (w .entry)) → Is (front (now (w .exit))) (And (Holds (front (now (w .entry)))) (Holds (next (now (w .entry)))))) ⌝ }
 {
+    if w.len() < 128 {
+        return;
+    }
     let mut i: usize = 64;
     while i > 0 {
         i -= 1;
@@ -150,9 +159,11 @@ pub fn meet(w: &mut [u64])
 
 // The first relation, then the next.
 pub fn compose(w: &mut [u64])
-    requires { ⌜ 128 ≤ length (now w) ⌝ }
-    ensures { λ _. ⌜ Is (front (now (w .exit))) (Then (Holds (front (now (w .entry)))) (Holds (next (now (w .entry))))) ⌝ }
+    ensures { λ _. ⌜ (128 ≤ length (now (w .entry)) → Is (front (now (w .exit))) (Then (Holds (front (now (w .entry)))) (Holds (next (now (w .entry)))))) ⌝ }
 {
+    if w.len() < 128 {
+        return;
+    }
     let mut i: usize = 64;
     while i > 0 {
         i -= 1;
@@ -163,9 +174,11 @@ pub fn compose(w: &mut [u64])
 
 // One or more steps of a relation that goes up: the words after i are closed before word i is.
 pub fn close(w: &mut [u64])
-    requires { ⌜ (64 ≤ length (now w)) × Up (Holds (front (now w))) ⌝ }
-    ensures { λ _. ⌜ Is (front (now (w .exit))) (Plus (Holds (front (now (w .entry))))) ⌝ }
+    ensures { λ _. ⌜ (64 ≤ length (now (w .entry)) → Up (Holds (front (now (w .entry)))) → Is (front (now (w .exit))) (Plus (Holds (front (now (w .entry)))))) ⌝ }
 {
+    if w.len() < 64 {
+        return;
+    }
     let mut i: usize = 64;
     while i > 0 {
         i -= 1;

@@ -12,8 +12,11 @@ Inv-loop w₀ i₀ w i = Written Empty w₀ w i
 abbrev μ-loop : tie.MeasureT-loop
 μ-loop w₀ i₀ w i = i
 
+returns : tie.Need-returns Inv-loop μ-loop
+returns c l = absurd (omega arith)
+
 loop-holds : tie.Need-loop-holds Inv-loop μ-loop
-loop-holds c = write-none (c .pre)
+loop-holds c = write-none (omega arith)
 
 sub-i : tie.Need-sub-i Inv-loop μ-loop
 sub-i c = omega arith
@@ -33,8 +36,8 @@ loop-again c = write-more (c .before .loop .inv) (omega arith) (empty-row _)
 same-length : tie.Need-same-length Inv-loop μ-loop
 same-length c = c .before .loop .inv .size
 
-returns : tie.Need-returns Inv-loop μ-loop
-returns c = written (c .before .loop .inv) (c .loop-test .left) (λ k j r. absurd r)
+returns-2 : tie.Need-returns-2 Inv-loop μ-loop
+returns-2 c l = written (c .before .loop .inv) (c .loop-test .left) (λ k j r. absurd r)
 
 pub clear-spec : {M : Type 1} → statement M
 clear-spec =
@@ -42,6 +45,7 @@ clear-spec =
     (tie.spec
     Inv-loop
     μ-loop
+    returns
     loop-holds
     sub-i
     mul-w
@@ -49,4 +53,4 @@ clear-spec =
     loop-less
     loop-again
     same-length
-    returns)
+    returns-2)

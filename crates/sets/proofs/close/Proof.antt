@@ -3,21 +3,22 @@ use native.Mathlib.Omega.{arith}
 use borrow.Author.Needs.{needs}
 use mathlib.Core.Path.{refl, sym}
 use lib.Seq.{length-take-le}
-use Rattle.sets.proofs.Closure.{plus-row, plus-low}
-use Rattle.sets.proofs.Words.{Written, write-none, write-more, written}
-use Rattle.sets.specs.Relations.{Plus}
-use Rattle.sets.specs.Words.{Holds, front}
+use Rattle.sets.proofs.Closure.{plus-low, Closing, close-none, close-more}
+use Rattle.sets.proofs.Words.{written}
 use Rattle.sets.proofs.close.Statement.{statement}
 use Rattle.sets.proofs.close.Tie as tie
 
 abbrev Inv-loop : tie.InvT-loop
-Inv-loop w₀ i₀ w i = Written (Plus (Holds (front w₀))) w₀ w i
+Inv-loop w₀ i₀ w i = Closing w₀ w i
 
 abbrev μ-loop : tie.MeasureT-loop
 μ-loop w₀ i₀ w i = i
 
+returns : tie.Need-returns Inv-loop μ-loop
+returns c l = absurd (omega arith)
+
 loop-holds : tie.Need-loop-holds Inv-loop μ-loop
-loop-holds c = write-none (c .before .pre .0)
+loop-holds c = close-none (omega arith)
 
 sub-i : tie.Need-sub-i Inv-loop μ-loop
 sub-i c = omega arith
@@ -47,14 +48,13 @@ loop-less : tie.Need-loop-less Inv-loop μ-loop
 loop-less c = omega arith
 
 loop-again : tie.Need-loop-again Inv-loop μ-loop
-loop-again c = let g = c .before .before .before .before .loop .inv in
-    write-more g (omega arith) (plus-row _ g (c .before .before .before .before .before .before .pre .1) (omega arith) refl (c .image .ensures))
+loop-again c = close-more (c .before .before .before .before .loop .inv) (omega arith) refl (c .image .ensures)
 
 same-length : tie.Need-same-length Inv-loop μ-loop
 same-length c = c .before .loop .inv .size
 
-returns : tie.Need-returns Inv-loop μ-loop
-returns c = written (c .before .loop .inv) (c .loop-test .left) (plus-low (c .before .before .before .args .w .now))
+returns-2 : tie.Need-returns-2 Inv-loop μ-loop
+returns-2 c l up = written (c .before .loop .inv .closed up) (c .loop-test .left) (plus-low (c .before .before .before .before .args .w .now))
 
 pub close-spec : {M : Type 1} → statement M
 close-spec =
@@ -62,6 +62,7 @@ close-spec =
     (tie.spec
     Inv-loop
     μ-loop
+    returns
     loop-holds
     sub-i
     mul-s
@@ -74,4 +75,4 @@ close-spec =
     loop-less
     loop-again
     same-length
-    returns)
+    returns-2)

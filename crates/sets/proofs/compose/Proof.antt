@@ -14,6 +14,9 @@ Inv-loop w₀ i₀ w i = Written (Then (Holds (front w₀)) (Holds (next w₀)))
 abbrev μ-loop : tie.MeasureT-loop
 μ-loop w₀ i₀ w i = i
 
+returns : tie.Need-returns Inv-loop μ-loop
+returns c l = absurd (omega arith)
+
 loop-holds : tie.Need-loop-holds Inv-loop μ-loop
 loop-holds c = write-none (omega arith)
 
@@ -49,13 +52,13 @@ loop-less c = omega arith
 
 loop-again : tie.Need-loop-again Inv-loop μ-loop
 loop-again c = let g = c .before .before .before .before .before .loop .inv in
-    write-more g (omega arith) (then-row (c .before .before .before .before .before .before .before .args .w .now) (omega (arith, g .within)) (g .before _ (omega arith)) (rw (← g .after) (c .image .ensures)))
+    write-more g (omega arith) (then-row (c .before .before .before .before .before .before .before .before .args .w .now) (omega (arith, g .within)) (g .before _ (omega arith)) (rw (← g .after) (c .image .ensures)))
 
 same-length : tie.Need-same-length Inv-loop μ-loop
 same-length c = c .before .loop .inv .size
 
-returns : tie.Need-returns Inv-loop μ-loop
-returns c = written (c .before .loop .inv) (c .loop-test .left) (then-low (c .before .before .before .args .w .now))
+returns-2 : tie.Need-returns-2 Inv-loop μ-loop
+returns-2 c l = written (c .before .loop .inv) (c .loop-test .left) (then-low (c .before .before .before .before .args .w .now))
 
 pub compose-spec : {M : Type 1} → statement M
 compose-spec =
@@ -63,6 +66,7 @@ compose-spec =
     (tie.spec
     Inv-loop
     μ-loop
+    returns
     loop-holds
     sub-i
     mul-image
@@ -76,4 +80,4 @@ compose-spec =
     loop-less
     loop-again
     same-length
-    returns)
+    returns-2)

@@ -12,8 +12,11 @@ Inv-loop stop w₀ gap₀ i₀ w gap i = Written (Gap stop) w₀ w i × Row (Gap
 abbrev μ-loop : tie.MeasureT-loop
 μ-loop stop w₀ gap₀ i₀ w gap i = i
 
+returns : tie.Need-returns Inv-loop μ-loop
+returns c l = absurd (omega arith)
+
 loop-holds : tie.Need-loop-holds Inv-loop μ-loop
-loop-holds c = (write-none (c .before .pre), gap-end _)
+loop-holds c = (write-none (omega arith), gap-end _)
 
 sub-i : tie.Need-sub-i Inv-loop μ-loop
 sub-i c = omega arith
@@ -41,8 +44,8 @@ loop-again c = let g = c .before .before .loop .inv in
 same-length : tie.Need-same-length Inv-loop μ-loop
 same-length c = c .before .loop .inv .0 .size
 
-returns : tie.Need-returns Inv-loop μ-loop
-returns c = written (c .before .loop .inv .0) (c .loop-test .left) (gap-low _)
+returns-2 : tie.Need-returns-2 Inv-loop μ-loop
+returns-2 c l = written (c .before .loop .inv .0) (c .loop-test .left) (gap-low _)
 
 pub gaps-spec : {M : Type 1} → statement M
 gaps-spec =
@@ -50,6 +53,7 @@ gaps-spec =
     (tie.spec
     Inv-loop
     μ-loop
+    returns
     loop-holds
     sub-i
     gap-word-requires
@@ -59,4 +63,4 @@ gaps-spec =
     loop-less
     loop-again
     same-length
-    returns)
+    returns-2)

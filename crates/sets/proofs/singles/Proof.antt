@@ -13,8 +13,11 @@ Inv-loop all marked w₀ gap₀ single₀ i₀ w gap single i = Written (Single 
 abbrev μ-loop : tie.MeasureT-loop
 μ-loop all marked w₀ gap₀ single₀ i₀ w gap single i = i
 
+returns : tie.Need-returns Inv-loop μ-loop
+returns c l = absurd (omega arith)
+
 loop-holds : tie.Need-loop-holds Inv-loop μ-loop
-loop-holds c = (write-none (c .before .pre), gap-end _, single-end _ _)
+loop-holds c = (write-none (omega arith), gap-end _, single-end _ _)
 
 sub-i : tie.Need-sub-i Inv-loop μ-loop
 sub-i c = omega arith
@@ -45,8 +48,8 @@ loop-again c = let g = c .before .before .before .loop .inv in
 same-length : tie.Need-same-length Inv-loop μ-loop
 same-length c = c .before .loop .inv .0 .size
 
-returns : tie.Need-returns Inv-loop μ-loop
-returns c = written (c .before .loop .inv .0) (c .loop-test .left) (single-low _ _)
+returns-2 : tie.Need-returns-2 Inv-loop μ-loop
+returns-2 c l = written (c .before .loop .inv .0) (c .loop-test .left) (single-low _ _)
 
 pub singles-spec : {M : Type 1} → statement M
 singles-spec =
@@ -54,6 +57,7 @@ singles-spec =
     (tie.spec
     Inv-loop
     μ-loop
+    returns
     loop-holds
     sub-i
     single-word-requires
@@ -64,4 +68,4 @@ singles-spec =
     loop-less
     loop-again
     same-length
-    returns)
+    returns-2)

@@ -13,6 +13,9 @@ Inv-loop w₀ i₀ w i = Written (Or (Holds (front w₀)) (Holds (next w₀))) w
 abbrev μ-loop : tie.MeasureT-loop
 μ-loop w₀ i₀ w i = i
 
+returns : tie.Need-returns Inv-loop μ-loop
+returns c l = absurd (omega arith)
+
 loop-holds : tie.Need-loop-holds Inv-loop μ-loop
 loop-holds c = write-none (omega arith)
 
@@ -45,13 +48,13 @@ loop-less c = omega arith
 
 loop-again : tie.Need-loop-again Inv-loop μ-loop
 loop-again c = let g = c .before .before .before .loop .inv in
-    write-more g (omega arith) (or-row (c .before .before .before .before .args .w .now) (omega (arith, g .within)) (g .before _ (omega arith)) (kept g _))
+    write-more g (omega arith) (or-row (c .before .before .before .before .before .args .w .now) (omega (arith, g .within)) (g .before _ (omega arith)) (kept g _))
 
 same-length : tie.Need-same-length Inv-loop μ-loop
 same-length c = c .before .loop .inv .size
 
-returns : tie.Need-returns Inv-loop μ-loop
-returns c = written (c .before .loop .inv) (c .loop-test .left) (or-low (c .before .before .args .w .now))
+returns-2 : tie.Need-returns-2 Inv-loop μ-loop
+returns-2 c l = written (c .before .loop .inv) (c .loop-test .left) (or-low (c .before .before .before .args .w .now))
 
 pub union-spec : {M : Type 1} → statement M
 union-spec =
@@ -59,6 +62,7 @@ union-spec =
     (tie.spec
     Inv-loop
     μ-loop
+    returns
     loop-holds
     sub-i
     mul-w
@@ -71,4 +75,4 @@ union-spec =
     loop-less
     loop-again
     same-length
-    returns)
+    returns-2)

@@ -1,0 +1,143 @@
+-- The relation of a oneOrMore from the relation of its operand without attributes.
+use Prim.Native.Nat.{ℕ, suc, _+_, _^_, _≤_, _<_}
+use mathlib.Core.Path.{_≡_, sym, ap, _∙_, subst}
+use mathlib.Core.Bool.{true}
+use mathlib.Core.List.{List, []}
+use mathlib.Core.Logic.{inl, inr, _↔_}
+use native.Mathlib.Decide.{ℕ-discrete}
+use native.Mathlib.Omega.{arith}
+use lib.Count.{trailingZeros}
+use lib.ListN.{getD}
+use Rattle.schema.specs.Rows.{rowsOf}
+use Rattle.schema.specs.Views.{oneOrMore, patternOf}
+use Rattle.sets.specs.Bits.{positions, bit}
+use Rattle.sets.specs.Relations.{Relation, Plus, once, more}
+use Rattle.sets.specs.Words.{Holds, Is, Up}
+use Rattle.sets.proofs.Least.{trailing}
+use Rattle.sets.proofs.Members.{none-has}
+use Rattle.sets.proofs.Words.{is-map, is-up}
+use Rattle.rules.specs.Items.{Attributes, none, only, Lookups}
+use Rattle.rules.specs.Rules.{Match, NotMatchBy}
+use Rattle.rules.specs.Job.{lookups}
+use Rattle.rules.proofs.Passing.{restricted}
+use Rattle.rules.proofs.Positions.{run-empty}
+use Rattle.rules.proofs.Repeats.{Repeated, span-oneOrMore, span-oneOrMore-attributes}
+use Rattle.rules.proofs.Restricted.{Restricted}
+use Rattle.rules.proofs.Spans.{Span}
+use Rattle.marks.specs.Marks.{attributeRow, attributesIn}
+use Rattle.matching.specs.Setting.{Setting, Asked, Related}
+use Rattle.matching.specs.Parts.{Within, Repeats}
+use Rattle.matching.proofs.Shares.{numberOf, in-row, row-in, no-attributes}
+
+plus-map : {R T : Relation} → ((i j : ℕ) → R i j → T i j) → {i j : ℕ} → Plus R i j → Plus T i j
+plus-map f (once {i} {j} r) = once (f i j r)
+plus-map f (more {i} {h} r q) = more (f i h r) (plus-map f q)
+
+plus-up : {R : Relation} → Up R → {i j : ℕ} → Plus R i j → i ≤ j
+plus-up up (once {i} {j} r) = up i j r
+plus-up up (more {i} {h} r q) = let l = up i h r in let m = plus-up up q in omega arith
+
+-- R up to the last position of a word
+abbrev Held : Relation → Relation
+Held R i j = (j < positions) × R i j
+
+plus-held : {R : Relation} {i j : ℕ} → Plus (Held R) i j → j < positions
+plus-held (once r) = r .0
+plus-held (more r q) = plus-held q
+
+held-plus : {R : Relation} → Up R → {i j : ℕ} → j < positions → Plus R i j → Plus (Held R) i j
+held-plus up l (once r) = once (l, r)
+held-plus up l (more {h = h} r q) = let m = plus-up up q in more {h = h} (omega arith, r) (held-plus up l q)
+
+repeats-map : {R T : Relation} (a k alone : ℕ) → ((i j : ℕ) → R i j → T i j) → (i j : ℕ) → Repeats a k alone R i j → Repeats a k alone T i j
+repeats-map a k alone f i j (h, inl q) = (h, inl (plus-map f q))
+repeats-map a k alone f i j (h, inr g) = (h, inr g)
+
+module _ {s marks named taken single : List ℕ} (S : Setting s marks named taken single) {a k : ℕ} (asked : Asked S a k) (p q : ℕ) (row : q < rowsOf s) (e : patternOf s p ≡ oneOrMore q) where
+  abbrev L : Lookups
+  L = lookups (S .bytes) (S .ends) s (S .t)
+
+  abbrev N : List ℕ → ℕ → Type 0
+  N = NotMatchBy L (rowsOf s)
+
+  abbrev A : Attributes
+  A = attributesIn (S .element) a
+
+  abbrev alone : ℕ
+  alone = getD single q 0
+
+  -- one step, without attributes
+  abbrev Step : Relation
+  Step = Span L N none (S .it) (bit k) q
+
+  step : (i j : ℕ) → Related S 0 k q i j ↔ Held Step i j
+  step i j = rw (no-attributes (S .element)) ((λ r. r), λ r. r)
+
+  up : Up Step
+  up i j r = r .0
+
+  steps : (i j : ℕ) → Plus (Related S 0 k q) i j ↔ Held (Plus Step) i j
+  steps i j = (to, λ r. plus-map (λ i j. step i j .1) (held-plus up (r .0) (r .1)))
+    where
+      to : Plus (Related S 0 k q) i j → Held (Plus Step) i j
+      to r = let t = plus-map (λ i j. step i j .0) r in (plus-held t, plus-map (λ i j u. u .1) t)
+
+  R : Restricted L
+  R = restricted (S .passes) (S .bytes) (S .ends) (S .t)
+
+  single-at : (x : ℕ) → bit a x ≡ true → (bit alone x ≡ true) ↔ Match L N (only (attributeRow (S .element) x)) [] (L .pattern q)
+  single-at x h = S .marked .singles q x row (asked .of-attributes x h) (R .repeats-flat p q e)
+
+  no-set : a ≡ 0 → A ≡ none
+  no-set z = ap (attributesIn (S .element)) z ∙ no-attributes (S .element)
+
+  without : a ≡ 0 → (i j : ℕ) → Repeats a k alone (Related S 0 k q) i j ↔ Related S a k p i j
+  without z i j = (to, from)
+    where
+      to : Repeats a k alone (Related S 0 k q) i j → Related S a k p i j
+      to (h, inl r) = let t = steps i j .0 r in (t .0, subst (λ (B : Attributes). Span L N B (S .it) (bit k) p i j) (sym (no-set z)) (span-oneOrMore L N (S .it) (bit k) q p i j e .1 (t .1)))
+      to (h, inr (l, g)) = absurd (omega arith)
+
+      from : Related S a k p i j → Repeats a k alone (Related S 0 k q) i j
+      from r =
+          let t = span-oneOrMore L N (S .it) (bit k) q p i j e .0 (subst (λ (B : Attributes). Span L N B (S .it) (bit k) p i j) (no-set z) (r .1)) in
+          (λ x h. absurd (none-has x (subst (λ (n : ℕ). bit n x ≡ true) z h)), inl (steps i j .1 (r .0, t)))
+
+  module _ (ha : a < 2 ^ 64) (some : 0 < a) where
+    below : (r : ℕ) → A r ≡ true → r < suc (S .element) + S .attributes
+    below r h = let z = in-row (S .element) a r h in let f = z .0 in let l = asked .of-attributes (numberOf (S .element) r) (z .1) in omega arith
+
+    span : (i j : ℕ) → Span L N A (S .it) (bit k) p i j ↔ Repeated L N (S .it) (bit k) q A i j
+    span i j =
+        let x = trailingZeros 64 a in
+        span-oneOrMore-attributes L N (S .it) (bit k) q R A (suc (S .element) + S .attributes) (attributeRow (S .element) x) below (row-in (S .element) a x ∙ trailing a some ha .member) (asked .distinct) p i j e
+
+    alone-row : Within a alone → (r : ℕ) → A r ≡ true → Match L N (only r) [] (L .pattern q)
+    alone-row h r m =
+        let z = in-row (S .element) a r m in
+        subst (λ (x : ℕ). Match L N (only x) [] (L .pattern q)) (z .0) (single-at (numberOf (S .element) r) (z .1) .0 (h (numberOf (S .element) r) (z .1)))
+
+    beside : (i j : ℕ) → Repeats a k alone (Related S 0 k q) i j ↔ Related S a k p i j
+    beside i j = (to, from)
+      where
+        to : Repeats a k alone (Related S 0 k q) i j → Related S a k p i j
+        to (h, inl r) = let t = steps i j .0 r in (t .0, span i j .1 (record { ordered = plus-up up (t .1); single = alone-row h; items = inr (t .1) }))
+        to (h, inr (l, g)) = (g .1, span i j .1 (record { ordered = g .0; single = alone-row h; items = inl (run-empty (S .it) (bit k) (g .0) .1 (g .2)) }))
+
+        from : Related S a k p i j → Repeats a k alone (Related S 0 k q) i j
+        from r =
+            let t = span i j .0 (r .1) in (
+              λ x h. single-at x h .1 (t .single (attributeRow (S .element) x) (row-in (S .element) a x ∙ h)),
+              elim (t .items) [
+                | inl z ↦ inr (some, (t .ordered, r .0, run-empty (S .it) (bit k) (t .ordered) .0 z))
+                | inr u ↦ inl (steps i j .1 (r .0, u))
+              ],
+            )
+
+  pub related-oneOrMore : {w w₁ : List ℕ} → a < 2 ^ 64 → Is w₁ (Related S 0 k q) → (Up (Holds w₁) → Is w (Repeats a k alone (Holds w₁))) → Is w (Related S a k p)
+  related-oneOrMore {w} {w₁} ha is₁ closed =
+      is-map (is-map (closed (is-up is₁ (λ i j r. r .1 .0))) (λ i j. (repeats-map a k alone (is₁ .sound) i j, repeats-map a k alone (is₁ .complete) i j))) (λ i j. same i j (ℕ-discrete a 0))
+    where
+      same : (i j : ℕ) → Dec (a ≡ 0) → Repeats a k alone (Related S 0 k q) i j ↔ Related S a k p i j
+      same i j (yes z) = without z i j
+      same i j (no z) = beside ha (omega arith) i j

@@ -1,0 +1,27 @@
+-- The gaps where there is no attribute, and otherwise nothing.
+use borrow.Author.Needs.{needs}
+use Rattle.matching.proofs.Conditions.{where-holds, where-fails}
+use Rattle.matching.proofs.no_items.Statement.{statement}
+use Rattle.matching.proofs.no_items.Tie as tie
+
+gaps-requires : tie.Need-gaps-requires
+gaps-requires c κs = search needs
+
+same-length : tie.Need-same-length
+same-length c = search needs
+
+returns : tie.Need-returns
+returns c l = where-holds (c .before .before .before .before .if1 .taken) (c .before .before .gaps .ensures l)
+
+clear-requires : tie.Need-clear-requires
+clear-requires c κs = search needs
+
+same-length-2 : tie.Need-same-length-2
+same-length-2 c = search needs
+
+returns-2 : tie.Need-returns-2
+returns-2 c l = where-fails (c .before .before .before .before .if1 .left) (c .before .before .clear .ensures l)
+
+pub no-items-spec : {M : Type 1} → statement M
+no-items-spec =
+    tie.close (tie.spec gaps-requires same-length returns clear-requires same-length-2 returns-2)

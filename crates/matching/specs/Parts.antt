@@ -1,0 +1,36 @@
+-- What the parts of a relation's computation hold, before they are joined to the relation of a row.
+use Prim.Native.Nat.{ℕ, _<_}
+use mathlib.Core.Path.{_≡_}
+use mathlib.Core.Bool.{true, false}
+use mathlib.Core.List.{List}
+use Rattle.schema.specs.Rows.{kindOf, aOf, bOf}
+use Rattle.schema.specs.Relations.{connective}
+use Rattle.sets.specs.Bits.{bit, Only}
+use Rattle.sets.specs.Relations.{Relation, Or, Plus}
+use Rattle.sets.specs.Words.{Gap, front, next}
+use Rattle.matching.specs.Setting.{Answers}
+
+-- R under a condition
+abbrev pub Where : Type 0 → Relation → Relation
+Where P R i j = P × R i j
+
+-- the one member of a is in marked
+abbrev pub OneIn : ℕ → ℕ → Type 0
+OneIn a marked = (x : ℕ) × Only a x × (bit marked x ≡ true)
+
+-- the members of a are in b
+abbrev pub Within : ℕ → ℕ → Type 0
+Within a b = (x : ℕ) → bit a x ≡ true → bit b x ≡ true
+
+-- each attribute of a matches alone; then come steps of R, or, beside attributes, no items
+abbrev pub Repeats : ℕ → ℕ → ℕ → Relation → Relation
+Repeats a k alone R = Where (Within a alone) (Or (Plus R) (Where (0 < a) (Gap k)))
+
+-- the words hold the relation of row p, if that has no operands
+abbrev pub AnswersLeaf : (s marks : List ℕ) (a k p : ℕ) → List ℕ → Type 0
+AnswersLeaf s marks a k p words = connective (kindOf s p) ≡ false → (named taken single : List ℕ) → Answers s marks named taken single a k p words
+
+-- the first relation is that of row p's first operand, and the next that of its second, where they are smaller rows
+pub record Operands (s marks named taken single : List ℕ) (p a₁ k₁ a₂ k₂ : ℕ) (w : List ℕ) : Type 0 where
+  pub first : aOf s p < p → bOf s p < p → Answers s marks named taken single a₁ k₁ (aOf s p) (front w)
+  pub second : aOf s p < p → bOf s p < p → Answers s marks named taken single a₂ k₂ (bOf s p) (next w)
