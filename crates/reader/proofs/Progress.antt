@@ -13,7 +13,7 @@ use Rattle.jobs.specs.Lines.{linesOf}
 use Rattle.jobs.specs.Reading.{Tables, wrong, lineBy, lines, andThen, addString, rowOf}
 use Rattle.reader.specs.Parts.{stringAfter, LineTo, StoredTo}
 use Rattle.reader.specs.Steps.{Next, Add, stringTables, readStrings, StringsTo, Adds, readRows, RowsTo, RowsStop}
-use Rattle.reader.proofs.Stored.{sets-append}
+use Rattle.tables.proofs.Stores.{sets-append}
 use Rattle.reader.proofs.Passing.{withText, string-keeps, string-adds, row-size}
 
 -- ---- one line of several

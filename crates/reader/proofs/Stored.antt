@@ -6,6 +6,7 @@ use Prim.Native.Nat.{ℕ, suc, _+_}
 use native.Mathlib.Omega.{arith}
 use lib.ListN.{length, set, length-append}
 use lib.Seq.{sets, length-sets}
+use Rattle.tables.proofs.Stores.{sets-append}
 use Rattle.reader.specs.Parts.{StoredTo}
 
 -- values in front of what is read
@@ -20,13 +21,6 @@ prepend-none (some rest) = refl
 prepend-more : (run : List ℕ) (v : ℕ) (rest : Option (List ℕ)) → prepend run (prepend (v ∷ []) rest) ≡ prepend (run ++ v ∷ []) rest
 prepend-more run v none = refl
 prepend-more run v (some rest) = ap some (sym (append-assoc run (v ∷ []) rest))
-
--- stores after the last
-pub sets-append : (out : List ℕ) (from : ℕ) (run more : List ℕ) → sets (sets out from run) (from + length run) more ≡ sets out from (run ++ more)
-sets-append out from [] more = let e : from + 0 ≡ from = omega arith in ap (λ (i : ℕ). sets out i more) e
-sets-append out from (a ∷ run) more =
-    let e : from + suc (length run) ≡ suc from + length run = omega arith in
-    ap (λ (i : ℕ). sets (sets (set out from a) (suc from) run) i more) e ∙ sets-append (set out from a) (suc from) run more
 
 -- of the whole a run is read and stored, up to a position, and the rest is to be read
 pub record Storing (whole : Option (List ℕ)) (out : List ℕ) (from : ℕ) (now : List ℕ) (to : ℕ) (rest : Option (List ℕ)) : Type 0 where

@@ -1,13 +1,13 @@
 -- The promise of the writer, put together from what its steps found and wrote.
 use mathlib.Core.Path.{_≡_, refl, sym, _∙_, ap, subst⁻¹}
 use mathlib.Core.Logic.{_≢_}
-use mathlib.Core.List.{List, _++_}
-use Prim.Native.Nat.{ℕ, zero, suc, _+_, _-_, _%_, _≤_, _<_}
+use mathlib.Core.List.{List}
+use Prim.Native.Nat.{ℕ, zero, suc, _%_, _≤_}
 use native.Mathlib.Omega.{arith}
-use native.Mathlib.Nat.{zero-add, add-comm}
-use lib.ListN.{length, take, drop, length-replicate, replicate-append-replicate}
-use lib.Seq.{sets, sets-eq, take-at, drop-at, take-append-add}
+use lib.ListN.{length}
+use lib.Seq.{sets}
 use Rattle.tables.proofs.Numbers.{not-less}
+use Rattle.tables.proofs.Stores.{sets-laid}
 use Rattle.tables.specs.Outputs.{zeros, laid}
 use Rattle.tables.specs.Refusals.{refusalOf, Tries, refused, goes-on, Passes}
 use Rattle.tables.specs.declared.Checked.{Checked}
@@ -26,20 +26,6 @@ use Rattle.writer.specs.declared.JobWritten.the-variants.{Written, NotWr
 pub is-zero : (n : ℕ) → ¬ (n ≢ 0) → n ≡ 0
 is-zero zero h = refl
 is-zero (suc n) h = absurd (h (λ e. omega arith))
-
--- a text that fits, put at the front of zeros
-sets-laid : (n : ℕ) (text : List ℕ) → length text ≤ n → sets (zeros n) 0 text ≡ laid n text
-sets-laid n text h =
-    let k : ℕ = n - length text in
-    let e : n ≡ length text + k = omega arith in
-    let z : zeros (length text + k) ≡ zeros (length text) ++ zeros k = sym (replicate-append-replicate (length text) k 0) in
-    let l : length (zeros (length text)) ≡ length text = length-replicate (length text) 0 in
-    subst⁻¹ (λ (m : ℕ). sets (zeros m) 0 text ≡ laid m text) e
-    (sets-eq text (zeros (length text + k)) 0 (let x = length-replicate {A = ℕ} (length text + k) 0 in omega arith)
-    ∙ ap (λ (r : List ℕ). text ++ r) (ap (λ (i : ℕ). drop i (zeros (length text + k))) (zero-add (length text)) ∙ ap (drop (length text)) z ∙ drop-at (zeros (length text)) (zeros k) (length text) l)
-    ∙ sym (take-append-add text (zeros (length text + k)) k
-    ∙ ap (λ (r : List ℕ). text ++ take k r) (ap zeros (add-comm (length text) k) ∙ sym (replicate-append-replicate k (length text) 0))
-    ∙ ap (λ (r : List ℕ). text ++ r) (take-at (zeros k) (zeros (length text)) k (length-replicate k 0))))
 
 module _ (bytes ends schema instance : List ℕ) (room : ℕ) where
   abbrev pub Chain : Verdict → Type 0

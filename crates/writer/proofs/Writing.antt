@@ -8,18 +8,13 @@ use native.Mathlib.Nat.{add-zero, le-trans, min-le-right}
 use native.Mathlib.Numerals.{add-one}
 use lib.ListN.{length, take, drop, getD, set, length-append, length-take, length-drop}
 use lib.Seq.{sets, set-out, length-sets, take-suc, take-all, length-take-le, getD-take, getD-drop}
+use Rattle.tables.proofs.Stores.{sets-append}
 use Rattle.strings.specs.Strings.{startOf, endOf, textOf}
 use borrow.Author.Tests.{eq-eqb, ne-eqb}
 use Rattle.jobs.specs.Numbers.{largestWord, decimal, wordText, wordsText, hexDigit, hexText}
 use Rattle.jobs.proofs.Decimals.{word-length}
 use Rattle.writer.specs.Promises.{TableFault, too-many-rows, broken-length}
 use Rattle.writer.specs.Writing.{Wrote}
-
-pub sets-append : (l : List ℕ) (i : ℕ) (a b : List ℕ) → sets (sets l i a) (i + length a) b ≡ sets l i (a ++ b)
-sets-append l i [] b = rw add-zero refl
-sets-append l i (v ∷ a) b =
-    let e : i + suc (length a) ≡ suc i + length a = omega arith in
-    rw e (sets-append (set l i v) (suc i) a b)
 
 pub wrote-none : (out : List ℕ) (at : ℕ) → Wrote out at [] out at
 wrote-none out at = record { holds = refl; moves = sym (add-zero at) }

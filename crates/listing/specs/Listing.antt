@@ -1,0 +1,44 @@
+-- The pairs that a table marks, in order: by element row, then by definition row.
+use Prim.Native.Nat.{ℕ, zero, suc, _+_, _*_, _≤_, _<_}
+use mathlib.Core.Path.{_≡_}
+use mathlib.Core.Bool.{Bool, cond}
+use mathlib.Core.List.{List, [], _∷_, _++_}
+use lib.ListN.{length, getD}
+use lib.Dec.{eqb}
+use lib.Seq.{sets}
+use Rattle.tables.specs.Outputs.{zeros, laid}
+use Rattle.schema.specs.RowRule.{maxRows}
+use Rattle.instance.specs.NodeRule.{maxNodes}
+use Rattle.rules.specs.Listed.{pairWords}
+use Rattle.listing.specs.declared.Listed.{Listed}
+use Rattle.listing.specs.declared.Listed.the-variants.{Pairs, TooShort}
+
+-- row e and definition d are marked
+abbrev pub isMarked : List ℕ → ℕ → ℕ → Bool
+isMarked table e d = eqb (getD table (e * maxRows + d) 0) 1
+
+-- the pair of row e and definition d, if it is marked
+abbrev pub pairIf : List ℕ → ℕ → ℕ → List (ℕ × ℕ)
+pairIf table e d = cond (isMarked table e d) ((e, d) ∷ []) []
+
+-- the marked definitions of row e below n
+unfoldable pub rowPairs : List ℕ → ℕ → ℕ → List (ℕ × ℕ)
+rowPairs table e zero = []
+rowPairs table e (suc n) = rowPairs table e n ++ pairIf table e n
+
+-- the marked pairs of the first rows, each with so many definitions
+unfoldable pub markedPairs : List ℕ → ℕ → ℕ → List (ℕ × ℕ)
+markedPairs table definitions zero = []
+markedPairs table definitions (suc n) = markedPairs table definitions n ++ rowPairs table n definitions
+
+-- pairs are put after n others, as far as they fit, and the new number is m
+pub record PutPairs (before : List ℕ) (n : ℕ) (pairs : List (ℕ × ℕ)) (after : List ℕ) (m : ℕ) : Type 0 where
+  pub holds : after ≡ sets before (n * 2) (pairWords pairs)
+  pub number : m ≡ n + length pairs
+
+-- the answer and the list of so many words, for at most 1,024 rows and 512 definitions
+pub record ListsPairs (table : List ℕ) (rows definitions room : ℕ) (list : List ℕ) (r : Listed) : Type 0 where
+  pub listed : (n : ℕ) → r ≡ Pairs n → (n ≡ length (markedPairs table definitions rows)) × (list ≡ laid room (pairWords (markedPairs table definitions rows)))
+  pub too-short : r ≡ TooShort → rows ≤ maxNodes → definitions ≤ maxRows → room < length (markedPairs table definitions rows) * 2
+  pub fits : (n : ℕ) → r ≡ Pairs n → n * 2 ≤ room
+  pub zeroed : r ≡ TooShort → list ≡ zeros room
