@@ -1,2 +1,4 @@
+pub mod Answers
 pub mod Given
 pub mod Marks
+pub mod Tests

@@ -1,10 +1,10 @@
 -- What each pattern does with one attribute or one item of an element, as sets in words, one word a schema row.
-use Prim.Native.Nat.{ℕ, suc, _+_, _-_, _<_, _≤_}
+use Prim.Native.Nat.{ℕ, suc, _+_, _-_, _<_}
 use mathlib.Core.Path.{_≡_}
-use mathlib.Core.Bool.{Bool, true, false, _&&_}
+use mathlib.Core.Bool.{true, _&&_}
 use mathlib.Core.List.{List, [], _∷_}
 use mathlib.Core.Logic.{_↔_}
-use lib.ListN.{length, getD}
+use lib.ListN.{getD}
 use lib.Dec.{ltb}
 use Rattle.schema.specs.Rows.{rowsOf}
 use Rattle.schema.specs.Views.{Pattern, empty, notAllowed, text, dataAll, dataExcept, value, attribute, ref, oneOrMore, choice, group, interleave, noPattern, patternOf}
@@ -12,7 +12,7 @@ use Rattle.sets.specs.Bits.{bit}
 use Rattle.rules.specs.Items.{Item, element, string, Attributes, none, only, Lookups}
 use Rattle.rules.specs.Rules.{Match, WeakMatch, NotMatchBy}
 use Rattle.rules.specs.Job.{lookups}
-use Rattle.rules.proofs.Reach.{Reaches, namesAttribute, takes}
+use Rattle.rules.proofs.Reach.{Reaches, namesAttribute, takes, takesAny}
 use Rattle.rules.proofs.Restricted.{Flat}
 use Rattle.rules.proofs.Inversion.{Paired}
 
@@ -58,15 +58,34 @@ module _ (L : Lookups) where
     pub named : L .inClass nc r ≡ true
     pub valued : WeakMatch L NotMatch none (string (L .value r) ∷ []) (L .pattern p)
 
+-- what the word of row p is in each of the four tables
+module _ (bytes ends s t : List ℕ) where
+  abbrev L : Lookups
+  L = lookups bytes ends s t
+
+  abbrev pub AttributeWord : (e attributes p w : ℕ) → Type 0
+  AttributeWord e attributes p w = (nc q x : ℕ) → patternOf s p ≡ attribute nc q → x < attributes → (bit w x ≡ true) ↔ TakesAttribute L nc q (attributeRow e x)
+
+  -- the items that a pattern which takes items takes, and the attributes that an attribute pattern takes
+  pub record LeafWord (e attributes : ℕ) (it : ℕ → Item) (items p w : ℕ) : Type 0 where
+    pub leaves : (k : ℕ) → k < items → takesAny (patternOf s p) ≡ true → (bit w k ≡ true) ↔ Takes L (patternOf s p) (it k)
+    pub attribute-leaves : AttributeWord e attributes p w
+
+  -- the attributes that an attribute pattern reached from p names
+  abbrev pub NamedWord : (e attributes p w : ℕ) → Type 0
+  NamedWord e attributes p w = (x : ℕ) → x < attributes → (bit w x ≡ true) ↔ Reaches L (namesAttribute L (attributeRow e x)) (patternOf s p)
+
+  -- the items that a pattern reached from p takes
+  abbrev pub TakenWord : (it : ℕ → Item) (items p w : ℕ) → Type 0
+  TakenWord it items p w = (k : ℕ) → k < items → (bit w k ≡ true) ↔ Reaches L (takes L (it k)) (patternOf s p)
+
+  -- the attributes that match p alone, where none stands in a group or interleave
+  abbrev pub SingleWord : (e attributes p w : ℕ) → Type 0
+  SingleWord e attributes p w = (x : ℕ) → x < attributes → Flat L (patternOf s p) → (bit w x ≡ true) ↔ Match L (NotMatchBy L (rowsOf s)) (only (attributeRow e x)) [] (patternOf s p)
+
 -- the words of the rows below n, for an element e with so many attributes whose items are the first so many of it
 pub record Marked (bytes ends s t : List ℕ) (e attributes : ℕ) (it : ℕ → Item) (items : ℕ) (marks named taken single : List ℕ) (n : ℕ) : Type 0 where
-  -- the items that a leaf takes
-  pub leaves : (p k : ℕ) → p < n → k < items → (bit (getD marks p 0) k ≡ true) ↔ Takes (lookups bytes ends s t) (patternOf s p) (it k)
-  -- the attributes that an attribute pattern takes
-  pub attribute-leaves : (p nc q x : ℕ) → p < n → patternOf s p ≡ attribute nc q → x < attributes → (bit (getD marks p 0) x ≡ true) ↔ TakesAttribute (lookups bytes ends s t) nc q (attributeRow e x)
-  -- the attributes that an attribute pattern reached from p names
-  pub names : (p x : ℕ) → p < n → x < attributes → (bit (getD named p 0) x ≡ true) ↔ Reaches (lookups bytes ends s t) (namesAttribute (lookups bytes ends s t) (attributeRow e x)) (patternOf s p)
-  -- the items that a pattern reached from p takes
-  pub takers : (p k : ℕ) → p < n → k < items → (bit (getD taken p 0) k ≡ true) ↔ Reaches (lookups bytes ends s t) (takes (lookups bytes ends s t) (it k)) (patternOf s p)
-  -- the attributes that match p alone, where none stands in a group or interleave
-  pub singles : (p x : ℕ) → p < n → x < attributes → Flat (lookups bytes ends s t) (patternOf s p) → (bit (getD single p 0) x ≡ true) ↔ Match (lookups bytes ends s t) (NotMatchBy (lookups bytes ends s t) (rowsOf s)) (only (attributeRow e x)) [] (patternOf s p)
+  pub leaf : (p : ℕ) → p < n → LeafWord bytes ends s t e attributes it items p (getD marks p 0)
+  pub names : (p : ℕ) → p < n → NamedWord bytes ends s t e attributes p (getD named p 0)
+  pub takers : (p : ℕ) → p < n → TakenWord bytes ends s t it items p (getD taken p 0)
+  pub singles : (p : ℕ) → p < n → SingleWord bytes ends s t e attributes p (getD single p 0)

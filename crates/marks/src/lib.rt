@@ -1,1 +1,407 @@
 // What each pattern of a schema does with the attributes and the children of one element, as sets.
+ghost use mathlib.Core.Path.{_≡_};
+ghost use mathlib.Core.Bool.{true, cond};
+ghost use mathlib.Core.Logic.{_↔_};
+ghost use mathlib.Core.List.{List};
+ghost use Prim.Native.Nat.{ℕ, _+_, _*_, _^_, _≤_, _<_};
+ghost use lib.Bits.{bitOr};
+ghost use lib.Dec.{eqb};
+ghost use lib.ListN.{length, getD};
+ghost use Rattle.schema.specs.Rows.{rowsOf, kindOf, aOf, bOf};
+ghost use Rattle.schema.specs.RowRule.{maxRows};
+ghost use Rattle.instance.specs.Width.{maxWidth};
+ghost use Rattle.marks.specs.Marks.{attributeRow};
+ghost use Rattle.marks.specs.Answers.{Limits, LeafAnswer, NamedAnswer, TakenAnswer, SingleAnswer, LeavesBelow, NamedBelow, TakenBelow, SingleBelow};
+ghost use Rattle.marks.specs.Given.{itemAt, Given};
+ghost use Rattle.marks.specs.Marks.{Marked};
+ghost use Rattle.marks.specs.Tests.{hasName, valueFits, stringAlone, elementPaired, elementNamed, attributeNamed, attributeFits, Collects, joinedBy};
+
+// A row of the table of strings alone, and one of the table of pairs, has so many entries.
+const STRIDE: usize = 512;
+
+// A field of the row of attribute x of element e.
+fn attribute_word(instance: &[u32], e: u32, x: u32, field: usize) -> u32
+    requires { ⌜ field < 5 ⌝ }
+    ensures { λ r. ⌜ r ≡ getD (now (instance .entry)) (attributeRow e x * 5 + field) 0 ⌝ }
+{
+    tables::word(instance, (e as usize + 1 + x as usize) * 5 + field)
+}
+
+// Whether an entry of a table of bytes is 1.
+fn is_set(table: &[u8], row: u32, k: u32) -> bool
+    ensures { λ r. ⌜ r ≡ eqb (getD (now (table .entry)) (row * 512 + k) 0) 1 ⌝ }
+{
+    tables::byte(table, row as usize * STRIDE + k as usize) == 1
+}
+
+// Whether string v weakly matches the pattern at row q.
+fn value_fits(alone: &[u8], nothing: &[u8], blank: &[u8], q: u32, v: u32) -> bool
+    ensures { λ r. ⌜ r ≡ valueFits (now (alone .entry)) (now (nothing .entry)) (now (blank .entry)) q v ⌝ }
+{
+    is_set(alone, q, v)
+        | ((tables::byte(blank, v as usize) == 1) & (tables::byte(nothing, q as usize) == 1))
+}
+
+// Whether the name of an instance row is in the class at schema row c.
+fn row_named(schema: &[u32], instance: &[u32], c: u32, row: u32) -> bool
+    ensures { λ r. ⌜ r ≡ hasName (now (schema .entry)) (now (instance .entry)) c row ⌝ }
+{
+    classes::in_class(
+        schema,
+        c,
+        instance::field_a(instance, row),
+        instance::field_b(instance, row),
+    )
+}
+
+// Whether the name of attribute x of element e is in the class at schema row c.
+fn attribute_named(schema: &[u32], instance: &[u32], e: u32, c: u32, x: u32) -> bool
+    ensures { λ r. ⌜ r ≡ hasName (now (schema .entry)) (now (instance .entry)) c (attributeRow e x) ⌝ }
+{
+    classes::in_class(
+        schema,
+        c,
+        attribute_word(instance, e, x, 2),
+        attribute_word(instance, e, x, 3),
+    )
+}
+
+// A set with or without position k.
+fn add_if(set: u64, k: u32, yes: bool) -> u64
+    requires { ⌜ k < 64 ⌝ }
+    ensures { λ r. ⌜ r ≡ cond yes (bitOr set (2 ^ k)) set ⌝ }
+{
+    if yes {
+        return set | 1u64 << k;
+    }
+    set
+}
+
+// The strings among the items that alone match the pattern at row p.
+fn strings_alone(alone: &[u8], items: &[u32], texts: u64, p: u32) -> u64
+    requires { ⌜ length (now items) ≤ maxWidth ⌝ }
+    ensures { λ r. ⌜ Collects (stringAlone (now (alone .entry)) (now (items .entry)) texts p) (length (now (items .entry))) r ⌝ }
+{
+    let mut set: u64 = 0;
+    let mut k: u32 = 0;
+    while (k as usize) < items.len() {
+        let item = tables::word(items, k as usize);
+        set = add_if(set, k, sets::has(texts, k) & is_set(alone, p, item));
+        k += 1;
+    }
+    set
+}
+
+// The elements among the items that are paired with definition d.
+fn elements_paired(pairs: &[u8], items: &[u32], texts: u64, d: u32) -> u64
+    requires { ⌜ length (now items) ≤ maxWidth ⌝ }
+    ensures { λ r. ⌜ Collects (elementPaired (now (pairs .entry)) (now (items .entry)) texts d) (length (now (items .entry))) r ⌝ }
+{
+    let mut set: u64 = 0;
+    let mut k: u32 = 0;
+    while (k as usize) < items.len() {
+        let item = tables::word(items, k as usize);
+        set = add_if(set, k, !sets::has(texts, k) & is_set(pairs, item, d));
+        k += 1;
+    }
+    set
+}
+
+// The elements among the items whose names are in the class at row c.
+fn elements_named(schema: &[u32], instance: &[u32], items: &[u32], texts: u64, c: u32) -> u64
+    requires { ⌜ length (now items) ≤ maxWidth ⌝ }
+    ensures { λ r. ⌜ Collects (elementNamed (now (schema .entry)) (now (instance .entry)) (now (items .entry)) texts c) (length (now (items .entry))) r ⌝ }
+{
+    let mut set: u64 = 0;
+    let mut k: u32 = 0;
+    while (k as usize) < items.len() {
+        let item = tables::word(items, k as usize);
+        set = add_if(
+            set,
+            k,
+            !sets::has(texts, k) & row_named(schema, instance, c, item),
+        );
+        k += 1;
+    }
+    set
+}
+
+// The attributes of element e whose names are in the class at row c.
+fn attributes_named(schema: &[u32], instance: &[u32], e: u32, attributes: u32, c: u32) -> u64
+    requires { ⌜ attributes ≤ maxWidth ⌝ }
+    ensures { λ r. ⌜ Collects (attributeNamed (now (schema .entry)) (now (instance .entry)) e c) attributes r ⌝ }
+{
+    let mut set: u64 = 0;
+    let mut x: u32 = 0;
+    while x < attributes {
+        set = add_if(set, x, attribute_named(schema, instance, e, c, x));
+        x += 1;
+    }
+    set
+}
+
+// The attributes of element e whose values weakly match the pattern at row q.
+fn attributes_fitting(
+    instance: &[u32],
+    alone: &[u8],
+    nothing: &[u8],
+    blank: &[u8],
+    e: u32,
+    attributes: u32,
+    q: u32,
+) -> u64
+    requires { ⌜ attributes ≤ maxWidth ⌝ }
+    ensures { λ r. ⌜ Collects (attributeFits (now (instance .entry)) (now (alone .entry)) (now (nothing .entry)) (now (blank .entry)) e q) attributes r ⌝ }
+{
+    let mut set: u64 = 0;
+    let mut x: u32 = 0;
+    while x < attributes {
+        let v = attribute_word(instance, e, x, 4);
+        set = add_if(set, x, value_fits(alone, nothing, blank, q, v));
+        x += 1;
+    }
+    set
+}
+
+// The union of the words of the operands of row p.
+fn operand_words(schema: &[u32], words: &[u64], p: u32) -> u64
+    ensures { λ r. ⌜ r ≡ joinedBy (kindOf (now (schema .entry)) p) (getD (now (words .entry)) (aOf (now (schema .entry)) p) 0) (getD (now (words .entry)) (bOf (now (schema .entry)) p) 0) ⌝ }
+{
+    let first = sets::word(words, schema::field_a(schema, p));
+    let second = sets::word(words, schema::field_b(schema, p));
+    match schema::kind(schema, p) {
+        9 => first,
+        10..=12 => first | second,
+        _ => 0,
+    }
+}
+
+// The items or attributes that the leaf at row p takes.
+fn leaf_word(
+    schema: &[u32],
+    instance: &[u32],
+    alone: &[u8],
+    nothing: &[u8],
+    blank: &[u8],
+    pairs: &[u8],
+    e: u32,
+    attributes: u32,
+    items: &[u32],
+    texts: u64,
+    p: u32,
+) -> u64
+    requires { ⌜ (attributes ≤ maxWidth) × (length (now items) ≤ maxWidth) ⌝ }
+    ensures { λ r. ⌜ LeafAnswer (now (schema .entry)) (now (instance .entry)) (now (alone .entry)) (now (nothing .entry)) (now (blank .entry)) (now (pairs .entry)) (now (items .entry)) e attributes texts p r ⌝ }
+{
+    let a = schema::field_a(schema, p);
+    let b = schema::field_b(schema, p);
+    match schema::kind(schema, p) {
+        3..=5 => strings_alone(alone, items, texts, p),
+        7 => {
+            attributes_named(schema, instance, e, attributes, a)
+                & attributes_fitting(instance, alone, nothing, blank, e, attributes, b)
+        }
+        8 => elements_paired(pairs, items, texts, a),
+        _ => 0,
+    }
+}
+
+// The attributes that an attribute pattern reached from row p names.
+fn named_word(
+    schema: &[u32],
+    instance: &[u32],
+    e: u32,
+    attributes: u32,
+    named: &[u64],
+    p: u32,
+) -> u64
+    requires { ⌜ attributes ≤ maxWidth ⌝ }
+    ensures { λ r. ⌜ NamedAnswer (now (schema .entry)) (now (instance .entry)) e attributes (now (named .entry)) p r ⌝ }
+{
+    let a = schema::field_a(schema, p);
+    match schema::kind(schema, p) {
+        7 => attributes_named(schema, instance, e, attributes, a),
+        _ => operand_words(schema, named, p),
+    }
+}
+
+// The items that a pattern reached from row p takes.
+fn taken_word(
+    schema: &[u32],
+    instance: &[u32],
+    items: &[u32],
+    texts: u64,
+    taken: &[u64],
+    p: u32,
+) -> u64
+    requires { ⌜ length (now items) ≤ maxWidth ⌝ }
+    ensures { λ r. ⌜ TakenAnswer (now (schema .entry)) (now (instance .entry)) (now (items .entry)) texts (now (taken .entry)) p r ⌝ }
+{
+    let d = schema::field_a(schema, p);
+    let c = schema::field_a(schema, d);
+    match schema::kind(schema, p) {
+        3..=5 => texts,
+        8 => elements_named(schema, instance, items, texts, c),
+        _ => operand_words(schema, taken, p),
+    }
+}
+
+// The attributes that match row p alone, from those that row p takes as an attribute pattern.
+fn single_word(schema: &[u32], leaf: u64, single: &[u64], p: u32) -> u64
+    ensures { λ r. ⌜ SingleAnswer (now (schema .entry)) leaf (now (single .entry)) p r ⌝ }
+{
+    match schema::kind(schema, p) {
+        7 => leaf,
+        9..=10 => operand_words(schema, single, p),
+        _ => 0,
+    }
+}
+
+// The words of the leaves.
+fn mark_leaves(
+    schema: &[u32],
+    instance: &[u32],
+    alone: &[u8],
+    nothing: &[u8],
+    blank: &[u8],
+    pairs: &[u8],
+    e: u32,
+    attributes: u32,
+    items: &[u32],
+    texts: u64,
+    marks: &mut [u64],
+)
+    requires { ⌜ Limits (now schema) (now items) attributes ⌝ }
+    ensures { λ _. ⌜ (rowsOf (now (schema .entry)) ≤ length (now (marks .entry)) → LeavesBelow (now (schema .entry)) (now (instance .entry)) (now (alone .entry)) (now (nothing .entry)) (now (blank .entry)) (now (pairs .entry)) (now (items .entry)) e attributes texts (now (marks .exit)) (rowsOf (now (schema .entry)))) ⌝ }
+{
+    let rows = schema.len() / 3;
+    if marks.len() < rows {
+        return;
+    }
+    let mut p = 0;
+    while p < rows {
+        let w = leaf_word(
+            schema,
+            instance,
+            alone,
+            nothing,
+            blank,
+            pairs,
+            e,
+            attributes,
+            items,
+            texts,
+            p as u32,
+        );
+        marks[p] = w;
+        p += 1;
+    }
+}
+
+// The words of the attributes that are named; those of the operands, which are smaller rows, are there before.
+fn mark_named(schema: &[u32], instance: &[u32], e: u32, attributes: u32, named: &mut [u64])
+    requires { ⌜ (rowsOf (now schema) ≤ maxRows) × (attributes ≤ maxWidth) ⌝ }
+    ensures { λ _. ⌜ (rowsOf (now (schema .entry)) ≤ length (now (named .entry)) → NamedBelow (now (schema .entry)) (now (instance .entry)) e attributes (now (named .exit)) (rowsOf (now (schema .entry)))) ⌝ }
+{
+    let rows = schema.len() / 3;
+    if named.len() < rows {
+        return;
+    }
+    let mut p = 0;
+    while p < rows {
+        let w = named_word(schema, instance, e, attributes, named, p as u32);
+        named[p] = w;
+        p += 1;
+    }
+}
+
+// The words of the items that are taken.
+fn mark_taken(schema: &[u32], instance: &[u32], items: &[u32], texts: u64, taken: &mut [u64])
+    requires { ⌜ (rowsOf (now schema) ≤ maxRows) × (length (now items) ≤ maxWidth) ⌝ }
+    ensures { λ _. ⌜ (rowsOf (now (schema .entry)) ≤ length (now (taken .entry)) → TakenBelow (now (schema .entry)) (now (instance .entry)) (now (items .entry)) texts (now (taken .exit)) (rowsOf (now (schema .entry)))) ⌝ }
+{
+    let rows = schema.len() / 3;
+    if taken.len() < rows {
+        return;
+    }
+    let mut p = 0;
+    while p < rows {
+        let w = taken_word(schema, instance, items, texts, taken, p as u32);
+        taken[p] = w;
+        p += 1;
+    }
+}
+
+// The words of the attributes that match alone, from the words of the leaves.
+fn mark_single(schema: &[u32], marks: &[u64], single: &mut [u64])
+    requires { ⌜ rowsOf (now schema) ≤ maxRows ⌝ }
+    ensures { λ _. ⌜ (rowsOf (now (schema .entry)) ≤ length (now (single .entry)) → SingleBelow (now (schema .entry)) (now (marks .entry)) (now (single .exit)) (rowsOf (now (schema .entry)))) ⌝ }
+{
+    let rows = schema.len() / 3;
+    if single.len() < rows {
+        return;
+    }
+    let mut p = 0;
+    while p < rows {
+        let w = single_word(schema, sets::word(marks, p as u32), single, p as u32);
+        single[p] = w;
+        p += 1;
+    }
+}
+
+// Whether there are as many rows, attributes and items as there may be.
+fn in_limits(schema: &[u32], attributes: u32, items: &[u32]) -> bool
+    ensures { λ r. ⌜ (r ≡ true) ↔ Limits (now (schema .entry)) (now (items .entry)) attributes ⌝ }
+{
+    if schema::MAX_ROWS < schema.len() / 3 {
+        return false;
+    }
+    if instance::MAX_WIDTH < attributes {
+        return false;
+    }
+    if (instance::MAX_WIDTH as usize) < items.len() {
+        return false;
+    }
+    true
+}
+
+// The words of each row of a schema for the element at row e, with so many attributes and with these items, of which those in texts are strings by their numbers and the others elements by
+// their rows. A table without room for every row is left as it is, and so are all where there are more rows, attributes or items than there may be.
+pub fn mark(
+    schema: &[u32],
+    instance: &[u32],
+    alone: &[u8],
+    nothing: &[u8],
+    blank: &[u8],
+    pairs: &[u8],
+    e: u32,
+    attributes: u32,
+    items: &[u32],
+    texts: u64,
+    marks: &mut [u64],
+    named: &mut [u64],
+    taken: &mut [u64],
+    single: &mut [u64],
+)
+    ensures { λ _. ⌜ ((bytes ends : List ℕ) → Given bytes ends (now (schema .entry)) (now (instance .entry)) (now (alone .entry)) (now (nothing .entry)) (now (blank .entry)) (now (pairs .entry)) (now (items .entry)) e attributes texts → rowsOf (now (schema .entry)) ≤ length (now (marks .entry)) → rowsOf (now (schema .entry)) ≤ length (now (named .entry)) → rowsOf (now (schema .entry)) ≤ length (now (taken .entry)) → rowsOf (now (schema .entry)) ≤ length (now (single .entry)) → Marked bytes ends (now (schema .entry)) (now (instance .entry)) e attributes (itemAt bytes ends (now (items .entry)) texts) (length (now (items .entry))) (now (marks .exit)) (now (named .exit)) (now (taken .exit)) (now (single .exit)) (rowsOf (now (schema .entry)))) ⌝ }
+{
+    if !in_limits(schema, attributes, items) {
+        return;
+    }
+    mark_leaves(
+        schema,
+        instance,
+        alone,
+        nothing,
+        blank,
+        pairs,
+        e,
+        attributes,
+        items,
+        texts,
+        marks,
+    );
+    mark_named(schema, instance, e, attributes, named);
+    mark_taken(schema, instance, items, texts, taken);
+    mark_single(schema, marks, single);
+}

@@ -24,6 +24,7 @@ use Rattle.rules.proofs.Inversion.{One}
 use Rattle.rules.proofs.Sequences.{hasElement}
 use Rattle.rules.proofs.Runs.{run}
 use Rattle.rules.proofs.Positions.{run-empty, run-single, run-strings}
+use Rattle.rules.proofs.Reach.{takesAny}
 use Rattle.rules.proofs.Spans.{Span, ItemsOnly, OnePaired, span-empty, span-text, span-value, span-dataAll, span-dataExcept, span-ref, span-attribute, span-notAllowed, span-noPattern}
 use Rattle.marks.specs.Marks.{attributeRow, attributesIn, IsString, IsPaired, Takes, TakesAttribute}
 use Rattle.matching.specs.Setting.{Setting, Asked, Related}
@@ -107,7 +108,7 @@ module _ {s marks named taken single : List ℕ} (S : Setting s marks named take
   related-text hk hm e = without-attributes (λ m. hasElement m ≡ false) (λ i j. span-text L N A (S .it) K p i j e) (λ i j. (to i j, from i j))
     where
       string-at : (x : ℕ) → K x ≡ true → (bit mark x ≡ true) ↔ IsString L (λ s. Unit {0}) (S .it x)
-      string-at x h = rw e at (S .marked .leaves p x row (asked .of-items x h))
+      string-at x h = rw e at (S .marked .leaf p row .leaves x (asked .of-items x h) (ap takesAny e))
 
       stop : (x : ℕ) → bit (bitAnd k (2 ^ 64 - 1 - mark)) x ≡ K x && not (bit mark x)
       stop x = bit-without 64 k mark x hk hm
@@ -159,28 +160,28 @@ module _ {s marks named taken single : List ℕ} (S : Setting s marks named take
             only = r .alone;
           }
 
-  takes-at : (x : ℕ) → K x ≡ true → (bit mark x ≡ true) ↔ Takes L (patternOf s p) (S .it x)
-  takes-at x h = S .marked .leaves p x row (asked .of-items x h)
+  takes-at : takesAny (patternOf s p) ≡ true → (x : ℕ) → K x ≡ true → (bit mark x ≡ true) ↔ Takes L (patternOf s p) (S .it x)
+  takes-at any x h = S .marked .leaf p row .leaves x (asked .of-items x h) any
 
   pub related-dataAll : {t : ℕ} → patternOf s p ≡ dataAll t → Is w (Where (a ≡ 0) (Single k mark)) → Is w (Related S a k p)
-  related-dataAll e = one-item (One (λ s. Unit {0})) (IsString L (λ s. Unit {0})) (one-string L (λ s. Unit {0})) (λ x h. rw e at (takes-at x h)) (λ i j. span-dataAll L N A (S .it) K p i j e)
+  related-dataAll e = one-item (One (λ s. Unit {0})) (IsString L (λ s. Unit {0})) (one-string L (λ s. Unit {0})) (λ x h. rw e at (takes-at (ap takesAny e) x h)) (λ i j. span-dataAll L N A (S .it) K p i j e)
 
   pub related-dataExcept : {t q : ℕ} → patternOf s p ≡ dataExcept t q → Is w (Where (a ≡ 0) (Single k mark)) → Is w (Related S a k p)
-  related-dataExcept {t} {q} e = one-item (One (λ s. N s q)) (IsString L (λ s. N s q)) (one-string L (λ s. N s q)) (λ x h. rw e at (takes-at x h)) (λ i j. span-dataExcept L N A (S .it) K p i j e)
+  related-dataExcept {t} {q} e = one-item (One (λ s. N s q)) (IsString L (λ s. N s q)) (one-string L (λ s. N s q)) (λ x h. rw e at (takes-at (ap takesAny e) x h)) (λ i j. span-dataExcept L N A (S .it) K p i j e)
 
   pub related-value : {t v : ℕ} → patternOf s p ≡ value t v → Is w (Where (a ≡ 0) (Single k mark)) → Is w (Related S a k p)
   related-value {t} {v} e =
-      one-item (One (λ s. L .Equal t s (L .text v))) (IsString L (λ s. L .Equal t s (L .text v))) (one-string L (λ s. L .Equal t s (L .text v))) (λ x h. rw e at (takes-at x h)) (λ i j. span-value L N A (S .it) K p i j e)
+      one-item (One (λ s. L .Equal t s (L .text v))) (IsString L (λ s. L .Equal t s (L .text v))) (one-string L (λ s. L .Equal t s (L .text v))) (λ x h. rw e at (takes-at (ap takesAny e) x h)) (λ i j. span-value L N A (S .it) K p i j e)
 
   pub related-ref : {d : ℕ} → patternOf s p ≡ ref d → Is w (Where (a ≡ 0) (Single k mark)) → Is w (Related S a k p)
-  related-ref {d} e = one-item (OnePaired L N d) (IsPaired L d) (one-paired L d) (λ x h. rw e at (takes-at x h)) (λ i j. span-ref L N A (S .it) K p i j (asked .clean) e)
+  related-ref {d} e = one-item (OnePaired L N d) (IsPaired L d) (one-paired L d) (λ x h. rw e at (takes-at (ap takesAny e) x h)) (λ i j. span-ref L N A (S .it) K p i j (asked .clean) e)
 
   -- one attribute, which the pattern takes, and no item
   pub related-attribute : {nc q : ℕ} → patternOf s p ≡ attribute nc q → Is w (Where (OneIn a mark) (Gap k)) → Is w (Related S a k p)
   related-attribute {nc} {q} e is = is-map is (λ i j. (to i j, from i j))
     where
       taken-at : (x : ℕ) → bit a x ≡ true → (bit mark x ≡ true) ↔ TakesAttribute L nc q (attributeRow (S .element) x)
-      taken-at x h = S .marked .attribute-leaves p nc q x row e (asked .of-attributes x h)
+      taken-at x h = S .marked .leaf p row .attribute-leaves nc q x e (asked .of-attributes x h)
 
       to : (i j : ℕ) → Where (OneIn a mark) (Gap k) i j → Related S a k p i j
       to i j r =

@@ -78,10 +78,10 @@ module _ {s marks named taken single : List ℕ} (S : Setting s marks named take
     names r h =
         let z = in-row (S .element) a r h in
         subst (λ (x : ℕ). (bit n (numberOf (S .element) r) ≡ true) ↔ Reaches L (namesAttribute L x) (L .pattern p₁)) (z .0)
-        (S .marked .names p₁ (numberOf (S .element) r) row (asked .of-attributes (numberOf (S .element) r) (z .1)))
+        (S .marked .names p₁ row (numberOf (S .element) r) (asked .of-attributes (numberOf (S .element) r) (z .1)))
 
     takers : Tells (bit t) (bit k) (λ x. Reaches L (takes L (S .it x)) (L .pattern p₁))
-    takers x h = S .marked .takers p₁ x row (asked .of-items x h)
+    takers x h = S .marked .takers p₁ row x (asked .of-items x h)
 
     module _ (ha : a < 2 ^ 64) (hn : n < 2 ^ 64) where
       -- the relations of the operands as spans

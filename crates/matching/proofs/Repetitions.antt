@@ -86,7 +86,7 @@ module _ {s marks named taken single : List ℕ} (S : Setting s marks named take
   R = restricted (S .passes) (S .bytes) (S .ends) (S .t)
 
   single-at : (x : ℕ) → bit a x ≡ true → (bit alone x ≡ true) ↔ Match L N (only (attributeRow (S .element) x)) [] (L .pattern q)
-  single-at x h = S .marked .singles q x row (asked .of-attributes x h) (R .repeats-flat p q e)
+  single-at x h = S .marked .singles q row x (asked .of-attributes x h) (R .repeats-flat p q e)
 
   no-set : a ≡ 0 → A ≡ none
   no-set z = ap (attributesIn (S .element)) z ∙ no-attributes (S .element)
