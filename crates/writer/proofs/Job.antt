@@ -19,7 +19,8 @@ use Rattle.schema.specs.RowRule.{maxRows}
 use Rattle.instance.specs.NodeRule.{maxNodes}
 use Rattle.jobs.specs.Reading.{maxFile}
 use Rattle.jobs.specs.Written.{jobText}
-use Rattle.writer.specs.Promises.{TableFault, too-many-rows, broken-length, TextFault, too-long, too-short, Sized, notWritten, writtenVerdict, WriteJob}
+use Rattle.writer.specs.Promises.{TableFault, too-many-rows, broken-length, TextFault, too-long, too-short, writtenVerdict, WriteJob}
+use Rattle.writer.specs.Writing.{Sized, notWritten}
 use Rattle.writer.specs.declared.JobWritten.{JobWritten}
 use Rattle.writer.specs.declared.JobWritten.the-variants.{Written, NotWritten}
 

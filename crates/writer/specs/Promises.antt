@@ -1,5 +1,5 @@
 -- What the writer of job files promises: the text of the tables, or the refusal.
-use Prim.Native.Nat.{ℕ, _/_, _%_, _<_, _≤_}
+use Prim.Native.Nat.{ℕ, _/_, _%_, _<_}
 use mathlib.Core.Path.{_≡_}
 use mathlib.Core.Logic.{_≢_}
 use mathlib.Core.List.{List}
@@ -8,10 +8,8 @@ use Rattle.tables.specs.Outputs.{laid, zeros}
 use Rattle.tables.specs.Refusals.{Tries, Passes}
 use Rattle.tables.specs.declared.Verdict.{Verdict}
 use Rattle.tables.specs.declared.Verdict.the-variants.{Passed, Refused}
-use Rattle.strings.specs.Strings.{StringFault, maxStrings, maxBytes}
-use Rattle.schema.specs.Rows.{rowsOf}
+use Rattle.strings.specs.Strings.{StringFault}
 use Rattle.schema.specs.RowRule.{maxRows}
-use Rattle.instance.specs.Nodes.{nodesOf}
 use Rattle.instance.specs.NodeRule.{maxNodes}
 use Rattle.jobs.specs.Reading.{maxFile}
 use Rattle.jobs.specs.Written.{jobText}
@@ -28,15 +26,6 @@ pub data TableFault (width limit : ℕ) (table : List ℕ) (place : ℕ) : Type 
   too-many-rows : limit < length table / width → place ≡ 0 → TableFault width limit table place
   broken-length : length table % width ≢ 0 → place ≡ 0 → TableFault width limit table place
 
--- the tables that are written
-pub record Sized (bytes ends schema instance : List ℕ) : Type 0 where
-  pub few-bytes : length bytes ≤ maxBytes
-  pub few-strings : length ends ≤ maxStrings
-  pub few-rows : rowsOf schema ≤ maxRows
-  pub whole-rows : length schema % 3 ≡ 0
-  pub few-nodes : nodesOf instance ≤ maxNodes
-  pub whole-nodes : length instance % 5 ≡ 0
-
 -- a text that is longer than a file may be, or than the output that is lent; the place is 0
 pub data TextFault (text : List ℕ) (room place : ℕ) : Type 0 where
   too-long : maxFile < length text → place ≡ 0 → TextFault text room place
@@ -48,8 +37,3 @@ pub record WriteJob (bytes ends schema instance : List ℕ) (room : ℕ) (out : 
   pub answer : writtenVerdict r ≡ Passed → r ≡ Written (length (jobText bytes ends schema instance))
   pub written : writtenVerdict r ≡ Passed → out ≡ laid room (jobText bytes ends schema instance)
   pub refused : (code place : ℕ) → writtenVerdict r ≡ Refused code place → out ≡ zeros room
-
--- the answer of a refusal
-abbrev pub notWritten : Verdict → JobWritten
-notWritten Passed = NotWritten 0 0
-notWritten (Refused code place) = NotWritten code place

@@ -12,8 +12,8 @@ ghost use Rattle.jobs.specs.Ascii.{ascii};
 ghost use Rattle.jobs.specs.Lines.{lineFeed, textOfLines};
 ghost use Rattle.jobs.specs.Numbers.{decimal, wordText, wordsText, hexDigit, hexText};
 ghost use Rattle.jobs.specs.Written.{stringLines, rowLines, jobText};
-ghost use Rattle.writer.specs.Promises.{TableFault, Sized, notWritten, WriteJob};
-ghost use Rattle.writer.specs.Writing.{Wrote, far};
+ghost use Rattle.writer.specs.Promises.{TableFault, WriteJob};
+ghost use Rattle.writer.specs.Writing.{Wrote, far, Sized, notWritten};
 
 // How long the text of a job is, or the refusal with its code and place.
 pub enum JobWritten {
