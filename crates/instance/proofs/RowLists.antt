@@ -102,7 +102,7 @@ pub data Alternate (t : List ℕ) : List ℕ → Type 0 where
   last-text : {r : ℕ} → kindOf t r ≡ text → Alternate t (r ∷ [])
   text-row : {r q : ℕ} {l : List ℕ} → kindOf t r ≡ text → isElement t q ≡ true → Alternate t l → Alternate t (r ∷ q ∷ l)
 
-child-kinds : (t : List ℕ) (e r : ℕ) → isChild t e r ≡ true → (isElement t r ≡ true) ⊎ (kindOf t r ≡ text)
+pub child-kinds : (t : List ℕ) (e r : ℕ) → isChild t e r ≡ true → (isElement t r ≡ true) ⊎ (kindOf t r ≡ text)
 child-kinds t e r c = go (eqb (kindOf t r) element) (and-parts (eqb (parentOf t r) e) (eqb (kindOf t r) element || eqb (kindOf t r) text) c .1)
   where
     go : (b : Bool) → (b || eqb (kindOf t r) text) ≡ true → (b ≡ true) ⊎ (kindOf t r ≡ text)

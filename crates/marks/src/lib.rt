@@ -67,7 +67,7 @@ fn attribute_named(schema: &[u32], instance: &[u32], e: u32, c: u32, x: u32) -> 
 }
 
 // A set with or without position k.
-fn add_if(set: u64, k: u32, yes: bool) -> u64
+pub fn add_if(set: u64, k: u32, yes: bool) -> u64
     requires { ⌜ k < 64 ⌝ }
     ensures { λ r. ⌜ r ≡ cond yes (bitOr set (2 ^ k)) set ⌝ }
 {

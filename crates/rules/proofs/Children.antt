@@ -19,7 +19,7 @@ use Rattle.rules.specs.Job.{itemOf, lookups}
 
 -- a string other than string 0 is not empty: string 0 is, and no two are equal
 module _ {bytes ends : List ℕ} (right : StringsRight bytes ends) where
-  first-empty : textOf bytes ends 0 ≡ []
+  pub first-empty : textOf bytes ends 0 ≡ []
   first-empty = go (ℕ-discrete (endOf ends 0) 0)
     where
       go : Dec (endOf ends 0 ≡ 0) → textOf bytes ends 0 ≡ []

@@ -1,0 +1,3 @@
+pub mod AttributeWord
+pub mod ItemRuns
+pub mod Lists

@@ -1,0 +1,27 @@
+use borrow.Author.Tests.{eq-eqb, ne-eqb}
+use borrow.Author.Needs.{needs}
+use Rattle.contents.proofs.item_word.Statement.{statement}
+use Rattle.contents.proofs.item_word.Tie as tie
+use Rattle.contents.proofs.item_word.Reads as reads
+use Rattle.contents.proofs.item_word.Lts as lts
+use Rattle.instance.proofs.field_a.Reads as field-a-reads
+use Rattle.instance.proofs.kind.Reads as kind-reads
+
+-- src/lib.rt:97:8
+kind-requires : tie.Need-kind-requires
+kind-requires c κs = search needs
+
+-- src/lib.rt:98:9
+field-a-requires : tie.Need-field-a-requires
+field-a-requires c κs = search needs
+
+-- src/lib.rt:98:9
+returns : tie.Need-returns
+returns c = rw (c .field-a .ensures, ← c .before .before .kind .ensures, eq-eqb _ 3 (c .before .if1 .taken))
+
+-- src/lib.rt:94:1
+returns-2 : tie.Need-returns-2
+returns-2 c = rw (← c .before .kind .ensures, ne-eqb _ 3 (c .if1 .left))
+
+pub item-word-spec : {M : Type 1} → statement M
+item-word-spec = tie.close (tie.spec kind-requires field-a-requires returns returns-2)

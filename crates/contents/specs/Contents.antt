@@ -1,0 +1,48 @@
+-- What is collected of an element: how many attributes it has, and its children.
+use Prim.Native.Nat.{ℕ, _≤_, _<_}
+use mathlib.Core.Path.{_≡_}
+use mathlib.Core.Bool.{Bool, true, false, cond, _&&_}
+use mathlib.Core.List.{List}
+use lib.Dec.{eqb, ltb}
+use lib.ListN.{length, getD}
+use Rattle.instance.specs.Nodes.{text, kindOf, aOf, isChild, isAttribute}
+use Rattle.instance.specs.Elements.{rowsWhere, isElement, childrenOf}
+use Rattle.instance.specs.Width.{maxWidth}
+use Rattle.sets.specs.Bits.{bit}
+use Rattle.marks.specs.Marks.{attributeRow}
+
+-- n rows right after element e are its attributes, and the next is none, unless there are more than an element may have
+pub record Counted (t : List ℕ) (e n : ℕ) : Type 0 where
+  pub attributes : (x : ℕ) → x < n → isAttribute t e (attributeRow e x) ≡ true
+  pub last : n ≤ maxWidth → isAttribute t e (attributeRow e n) ≡ false
+
+-- the first n of the words are the members of l, as far as there are words
+pub record Holds (words l : List ℕ) (n : ℕ) : Type 0 where
+  pub count : n ≡ length l
+  pub each : (k : ℕ) → k < n → k < length words → getD words k 0 ≡ getD l k 0
+
+-- the first n words are the rows of e's children that stand before row r, where e has no child before it
+abbrev pub Children : (t : List ℕ) (e : ℕ) (words : List ℕ) (n r : ℕ) → Type 0
+Children t e words n r = ((x : ℕ) → x ≤ e → isChild t e x ≡ false) → Holds words (rowsWhere (isChild t e) r) n
+
+-- an item as a word: a text by its string, an element by its row
+abbrev pub itemWord : List ℕ → ℕ → ℕ
+itemWord t r = cond (eqb (kindOf t r) text) (aOf t r) r
+
+-- whether word k is a row of a kind
+abbrev pub ofKind : (t words : List ℕ) (kind : ℕ) → ℕ → Bool
+ofKind t words kind k = eqb (kindOf t (getD words k 0)) kind
+
+-- the first n rows as items
+pub record Itemized (t before after : List ℕ) (n : ℕ) : Type 0 where
+  pub size : length after ≡ length before
+  pub each : (k : ℕ) → k < n → k < length before → getD after k 0 ≡ itemWord t (getD before k 0)
+  pub rest : (k : ℕ) → n ≤ k → getD after k 0 ≡ getD before k 0
+
+-- element e has n children; item k, and where the two words have k, are child k
+pub record Contents (t : List ℕ) (e : ℕ) (items : List ℕ) (n texts elements : ℕ) : Type 0 where
+  pub count : n ≡ length (childrenOf t e)
+  pub few : n ≤ maxWidth
+  pub each : (k : ℕ) → k < n → getD items k 0 ≡ itemWord t (getD (childrenOf t e) k 0)
+  pub texts-at : (k : ℕ) → bit texts k ≡ (ltb k n && eqb (kindOf t (getD (childrenOf t e) k 0)) text)
+  pub elements-at : (k : ℕ) → bit elements k ≡ (ltb k n && isElement t (getD (childrenOf t e) k 0))

@@ -1,0 +1,158 @@
+-- The entries of one element, and the table from the last row to the first.
+use Prim.Native.Nat.{ℕ, suc, _+_, _≤_, _<_}
+use mathlib.Core.Path.{_≡_, refl, sym, _∙_, ap}
+use mathlib.Core.Bool.{Bool, true, false, cond, true≢false}
+use mathlib.Core.List.{List}
+use mathlib.Core.Logic.{_↔_, _⊎_, inl, inr, ⊎-elim, ⊎-map, _≢_}
+use native.Mathlib.Omega.{arith}
+use native.Mathlib.Decide.{ℕ-discrete}
+use lib.Dec.{eqb}
+use lib.ListN.{length, getD, take, set, length-set}
+use lib.Seq.{getD-take, getD-set-same, length-take-le}
+use borrow.Author.Tests.{eq-eqb, eqb-true}
+use Rattle.strings.specs.Strings.{at-front}
+use Rattle.strings.proofs.Table.{ends-of, few-strings}
+use Rattle.schema.specs.Rows.{rowsOf, bOf}
+use Rattle.schema.specs.RowRule.{maxRows}
+use Rattle.schema.proofs.RowLaws.{few-rows, right-size}
+use Rattle.instance.specs.Nodes.{element, text, nodesOf, kindOf}
+use Rattle.instance.specs.Width.{maxWidth}
+use Rattle.instance.specs.Elements.{isElement, childrenOf}
+use Rattle.instance.proofs.Elements.{child-later}
+use Rattle.sets.specs.Bits.{bit}
+use Rattle.sets.proofs.Bits.{bit-pow}
+use Rattle.rules.specs.Rules.{NotMatchBy}
+use Rattle.rules.specs.Job.{lookups}
+use Rattle.rules.proofs.Inversion.{Paired}
+use Rattle.marks.specs.Marks.{attributeRow, Marked}
+use Rattle.marks.specs.Given.{itemAt, pairEntry, Given}
+use Rattle.marks.specs.Tests.{Collects}
+use Rattle.matching.specs.Setting.{Setting, Asked}
+use Rattle.contents.specs.Contents.{Counted, Children, ofKind, Itemized, Contents}
+use Rattle.contents.proofs.AttributeWord.{value-string, few-counted}
+use Rattle.contents.proofs.ItemRuns.{Kind, is-text, is-element, kind-at, child-at, collected-contents}
+use Rattle.pairs.specs.Pairs.{IsPair, PairsFrom}
+use Rattle.pairs.specs.Rows.{FitsDefinition, RowKept, RowTold, Shown, RowRight, Filling, Known, isSolid}
+use Rattle.pairs.proofs.Showing.{text-item, mixed-shown, simple-shown, string-known}
+
+-- what is told of each definition, where the attributes and items stand for the element
+module _ {bytes ends s t alone nothing blank pairs items marks named taken single : List ℕ} {e attributes texts : ℕ} (g : Given bytes ends s t alone nothing blank pairs items e attributes texts)
+    (m : Marked bytes ends s t e attributes (itemAt bytes ends items texts) (length items) marks named taken single (rowsOf s)) {a k : ℕ} {weak : Bool} (shown : Shown bytes ends s t items e attributes texts a k weak) where
+  abbrev setting : Setting s marks named taken single
+  setting = record { bytes = bytes; ends = ends; t = t; passes = g .passes; element = e; attributes = attributes; it = itemAt bytes ends items texts; items = length items; marked = m }
+
+  asked : Asked setting a k
+  asked = record { of-attributes = shown .of-attributes; of-items = shown .of-items; distinct = shown .distinct; clean = shown .clean }
+
+  pub row-right : {before after : List ℕ} → isElement t e ≡ true → RowTold s t marks named taken single a k weak before after e (rowsOf s) → RowRight bytes ends s t before after e
+  row-right {before} {after} i r = record { others = r .others; right = λ d h. (λ v. to d (r .told d h setting asked .0 v), λ p. r .told d h setting asked .1 (from d (p .1))) }
+    where
+      to : (d : ℕ) → FitsDefinition setting t a k weak e d → IsPair bytes ends s t e d
+      to d f = (i, record { defined = f .defined; ordered = shown .ordered; named = f .has-name; content = shown .content (bOf s d) .1 (⊎-map (λ x. x .1) (λ x. (x .0, x .1 .1)) (f .content)) })
+
+      from : (d : ℕ) → Paired (lookups bytes ends s t) (NotMatchBy (lookups bytes ends s t) (rowsOf s)) e d → FitsDefinition setting t a k weak e d
+      from d p = record { defined = p .defined; has-name = p .named; content = ⊎-map (λ x. (omega arith, x)) (λ x. (x .0, (omega arith, x .1))) (shown .content (bOf s d) .0 (p .content)) }
+
+module _ {bytes ends s t alone nothing blank pairs : List ℕ} where
+  -- one row more: that of an element, and another
+  pub filling-row : {after : List ℕ} {r : ℕ} → Filling bytes ends s t alone nothing blank pairs (r + 1) → RowRight bytes ends s t pairs after r → Filling bytes ends s t alone nothing blank after r
+  filling-row {after} {r} f w = record {
+    pass = f .pass;
+    filled = f .filled;
+    from = record { entries = λ e d h l m. go e d h l m (ℕ-discrete e r) };
+    empty = λ e d h l. w .others .kept e d (λ z. omega arith) l ∙ f .empty e d (omega arith) l;
+  }
+    where
+      go : (e d : ℕ) → r ≤ e → e < nodesOf t → d < rowsOf s → Dec (e ≡ r) → (pairEntry after e d ≡ 1) ↔ IsPair bytes ends s t e d
+      go e d h l m (yes z) = rw z (w .right d m)
+      go e d h l m (no z) = rw (w .others .kept e d z (let x = few-rows (right-size (f .pass .schema .rows)) in omega arith)) (f .from .entries e d (omega arith) l m)
+
+  pub filling-past : {r : ℕ} → isElement t r ≡ false → Filling bytes ends s t alone nothing blank pairs (r + 1) → Filling bytes ends s t alone nothing blank pairs r
+  filling-past {r} i f = record { pass = f .pass; filled = f .filled; from = record { entries = λ e d h l m. go e d h l m (ℕ-discrete e r) }; empty = λ e d h l. f .empty e d (omega arith) l }
+    where
+      go : (e d : ℕ) → r ≤ e → e < nodesOf t → d < rowsOf s → Dec (e ≡ r) → (pairEntry pairs e d ≡ 1) ↔ IsPair bytes ends s t e d
+      go e d h l m (yes z) =
+          let x = few-rows (right-size (f .pass .schema .rows)) in
+          let y = f .empty e d (omega arith) (omega arith) in
+          (λ q. absurd (omega arith), λ q. absurd (true≢false (sym (q .0) ∙ ap (isElement t) z ∙ i)))
+      go e d h l m (no z) = f .from .entries e d (omega arith) l m
+
+  module _ {e attributes : ℕ} (f : Filling bytes ends s t alone nothing blank pairs (e + 1)) (h : e < nodesOf t) (counted : Counted t e attributes) (few : attributes ≤ maxWidth) where
+    given : (items : List ℕ) (texts : ℕ) → length items ≤ maxWidth → ((k : ℕ) → k < length items → bit texts k ≡ true → getD items k 0 < length ends)
+        → ((k : ℕ) → k < length items → bit texts k ≡ false → (e + 1 ≤ getD items k 0) × (getD items k 0 < nodesOf t) × (isElement t (getD items k 0) ≡ true))
+        → Given bytes ends s t alone nothing blank pairs items e attributes texts
+    given items texts l strings elements = record {
+      passes = f .pass .schema;
+      few-strings = few-strings (λ k x. ends-of (f .pass .strings) k (at-front x));
+      alone-right = f .filled .entries;
+      blank-right = f .filled .blanks;
+      few-attributes = few;
+      few-items = l;
+      values = λ x m. value-string (f .pass .nodes) e h (attributeRow e x) (counted .attributes x m);
+      strings = strings;
+      elements = λ k d m b i.
+          let r = elements k m b in
+          let p = f .from .entries (getD items k 0) d (r .0) (r .1) i in
+          (λ v. p .0 v .1, λ v. p .1 (r .2, v));
+    }
+
+    pub mixed-given : {items : List ℕ} {n texts elements : ℕ} → Contents t e items n texts elements → n ≡ length items → Given bytes ends s t alone nothing blank pairs items e attributes texts
+    mixed-given {items} {n} {texts} {elements} c size = given items texts (let l = c .few in omega arith) (λ k m b. text-item (f .pass) h c k (rw size m) b) (λ k m b. go k (rw size m) b (kind-at c k (rw size m)))
+      where
+        go : (k : ℕ) → k < n → bit texts k ≡ false → Kind c k → (e + 1 ≤ getD items k 0) × (getD items k 0 < nodesOf t) × (isElement t (getD items k 0) ≡ true)
+        go k m b (is-text i j x q) = absurd (true≢false (sym x ∙ b))
+        go k m b (is-element i x q) = let l = child-later (f .pass .nodes) e (getD (childrenOf t e) k 0) h (child-at c k m) in rw q (omega arith, l .1, i)
+
+    pub simple-given : (one : List ℕ) → length one ≡ 1 → getD one 0 0 < length ends → Given bytes ends s t alone nothing blank pairs one e attributes 1
+    simple-given one size l =
+        given one 1 (omega arith) (λ k m b. let z : k ≡ 0 = omega arith in rw z l)
+        (λ k m b. let z : k ≡ 0 = omega arith in absurd (true≢false (sym (bit-pow 0 k ∙ eq-eqb k 0 z) ∙ b)))
+
+-- the first items as a list of their own
+pub contents-taken : {t items : List ℕ} {e n texts elements : ℕ} → Contents t e items n texts elements → Contents t e (take n items) n texts elements
+contents-taken {items = items} {n = n} c = record { count = c .count; few = c .few; each = λ k h. getD-take n items k 0 h ∙ c .each k h; texts-at = c .texts-at; elements-at = c .elements-at }
+
+-- what an element's items are asked with
+pub record Ready (bytes ends s t alone nothing blank pairs items : List ℕ) (e attributes texts a k : ℕ) (weak : Bool) : Type 0 where
+  pub ready-given : Given bytes ends s t alone nothing blank pairs items e attributes texts
+  pub ready-shown : Shown bytes ends s t items e attributes texts a k weak
+
+module _ {bytes ends s t alone nothing blank pairs items : List ℕ} {e attributes a n texts elements : ℕ} (known : Known bytes ends s t alone nothing blank pairs items e attributes a n texts elements) where
+  pub mixed-ready : {content : List ℕ} {k : ℕ} → elements ≢ 0 → content ≡ take n items → n ≤ length items → Collects (isSolid blank content texts) (length content) k
+      → Ready bytes ends s t alone nothing blank pairs content e attributes texts a k false
+  mixed-ready {content} {k} f q l solid =
+      let size : n ≡ length content = sym (ap length q ∙ length-take-le n items l) in
+      let c : Contents t e content n texts elements = rw q (contents-taken (known .contents)) in
+      record {
+        ready-given = mixed-given (known .filling) (known .in-table) (known .counted) (known .few) c size;
+        ready-shown = mixed-shown (known .filling .pass) (known .in-table) (known .counted) (known .few) (known .all) blank c size f (known .filling .filled .blanks) (rw size solid);
+      }
+
+  pub simple-ready : {one : List ℕ} {v : ℕ} {weak : Bool} → elements ≡ 0 → v ≡ cond (eqb n 0) 0 (getD items 0 0) → one ≡ take 1 (set items 0 v) → 1 ≤ length items → weak ≡ eqb (getD blank v 0) 1
+      → Ready bytes ends s t alone nothing blank pairs one e attributes 1 a 1 weak
+  simple-ready {one} {v} {weak} z q r l w =
+      let room : 1 ≤ length (set items 0 v) = rw (length-set items 0 v) l in
+      let size : length one ≡ 1 = ap length r ∙ length-take-le 1 (set items 0 v) room in
+      let first : getD one 0 0 ≡ v = ap (λ (m : List ℕ). getD m 0 0) r ∙ getD-take 1 (set items 0 v) 0 0 (omega arith) ∙ getD-set-same items 0 v 0 l in
+      let low = string-known (known .filling .pass) (known .in-table) (known .counted) (known .few) (known .all) (known .contents) z q in
+      record {
+        ready-given = simple-given (known .filling) (known .in-table) (known .counted) (known .few) one size (rw first low);
+        ready-shown = simple-shown (known .filling .pass) (known .in-table) (known .counted) (known .few) (known .all) blank (known .contents) z q (known .filling .filled .blanks) one size first weak w;
+      }
+
+-- what the functions of `contents` tell of an element
+pub know : {bytes ends s t alone nothing blank pairs rows items : List ℕ} {e attributes a n texts elements : ℕ} → Filling bytes ends s t alone nothing blank pairs (e + 1) → e < nodesOf t → isElement t e ≡ true → Counted t e attributes
+    → (attributes ≤ maxWidth → Collects (λ k. true) attributes a) → maxWidth ≤ length rows → Children t e rows n (nodesOf t) → Itemized t rows items n → (n ≤ maxWidth → Collects (ofKind t rows text) n texts)
+    → (n ≤ maxWidth → Collects (ofKind t rows element) n elements) → Known bytes ends s t alone nothing blank pairs items e attributes a n texts elements
+know {t = t} {e = e} f h i counted all room c items texts elements =
+    let k = eqb-true (kindOf t e) element i in
+    let few = few-counted (f .pass .nodes) e h counted k (f .pass .narrow e) in
+    record {
+      filling = f;
+      in-table = h;
+      element = i;
+      counted = counted;
+      few = few;
+      all = all few;
+      contents = collected-contents (f .pass .nodes) h k (f .pass .narrow e) room c items texts elements;
+    }

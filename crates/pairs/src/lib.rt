@@ -1,0 +1,469 @@
+// The pairs of an element and a definition that it matches.
+ghost use mathlib.Core.Path.{_≡_};
+ghost use mathlib.Core.Bool.{true, cond};
+ghost use mathlib.Core.List.{List};
+ghost use mathlib.Core.Logic.{_≢_};
+ghost use Prim.Native.Nat.{ℕ, _+_, _*_, _≤_, _<_};
+ghost use lib.Dec.{eqb};
+ghost use lib.ListN.{length, getD, take};
+ghost use Rattle.tables.specs.Answers.{Decides};
+ghost use Rattle.schema.specs.Rows.{rowsOf};
+ghost use Rattle.instance.specs.Width.{maxWidth};
+ghost use Rattle.matching.specs.Setting.{Setting, Asked, Related};
+ghost use Rattle.instance.specs.Nodes.{nodesOf};
+ghost use Rattle.instance.specs.Elements.{isElement};
+ghost use Rattle.marks.specs.Given.{Given};
+ghost use Rattle.marks.specs.Tests.{Collects};
+ghost use Rattle.pairs.specs.Pairs.{TablesPass, PairsRight};
+ghost use Rattle.pairs.specs.Rows.{Fits, TellsPair, RowTold, Shown, RowRight, isSolid, Filling, Known};
+
+// Whether the attributes a and all items of k match the pattern at row p.
+fn all_match(
+    schema: &[u32],
+    marks: &[u64],
+    named: &[u64],
+    taken: &[u64],
+    single: &[u64],
+    a: u64,
+    k: u64,
+    p: u32,
+    work: &mut [u64],
+) -> bool
+    requires { ⌜ 32768 ≤ length (now work) ⌝ }
+    ensures { λ r. ⌜ ((S : Setting (now (schema .entry)) (now (marks .entry)) (now (named .entry)) (now (taken .entry)) (now (single .entry))) → Asked S a k → p < rowsOf (now (schema .entry)) → Decides (Related S a k p 0 maxWidth) r) ⌝ }
+{
+    matching::relate(schema, marks, named, taken, single, a, k, p, work);
+    sets::has(sets::word(work, 0), 63)
+}
+
+// Whether the content fits the pattern at row p: weak says that it is whitespace.
+fn content_fits(
+    schema: &[u32],
+    marks: &[u64],
+    named: &[u64],
+    taken: &[u64],
+    single: &[u64],
+    a: u64,
+    k: u64,
+    weak: bool,
+    p: u32,
+    work: &mut [u64],
+) -> bool
+    requires { ⌜ 32768 ≤ length (now work) ⌝ }
+    ensures { λ r. ⌜ ((S : Setting (now (schema .entry)) (now (marks .entry)) (now (named .entry)) (now (taken .entry)) (now (single .entry))) → Asked S a k → p < rowsOf (now (schema .entry)) → Decides (Fits S a k weak p) r) ⌝ }
+{
+    if all_match(schema, marks, named, taken, single, a, k, p, work) {
+        return true;
+    }
+    if weak {
+        return all_match(schema, marks, named, taken, single, a, 0, p, work);
+    }
+    false
+}
+
+// The entry of element e and schema row d.
+fn pair_at(
+    schema: &[u32],
+    instance: &[u32],
+    marks: &[u64],
+    named: &[u64],
+    taken: &[u64],
+    single: &[u64],
+    a: u64,
+    k: u64,
+    weak: bool,
+    e: u32,
+    d: u32,
+    work: &mut [u64],
+) -> u8
+    requires { ⌜ 32768 ≤ length (now work) ⌝ }
+    ensures { λ v. ⌜ (d < rowsOf (now (schema .entry)) → TellsPair (now (schema .entry)) (now (instance .entry)) (now (marks .entry)) (now (named .entry)) (now (taken .entry)) (now (single .entry)) a k weak e d v) ⌝ }
+{
+    if schema::kind(schema, d) != 20 {
+        return 0;
+    }
+    let class = schema::field_a(schema, d);
+    let namespace = instance::field_a(instance, e);
+    let local = instance::field_b(instance, e);
+    if !classes::in_class(schema, class, namespace, local) {
+        return 0;
+    }
+    let p = schema::field_b(schema, d);
+    if content_fits(schema, marks, named, taken, single, a, k, weak, p, work) {
+        return 1;
+    }
+    0
+}
+
+// The entries of element e.
+fn pair_row(
+    schema: &[u32],
+    instance: &[u32],
+    marks: &[u64],
+    named: &[u64],
+    taken: &[u64],
+    single: &[u64],
+    a: u64,
+    k: u64,
+    weak: bool,
+    e: u32,
+    pairs: &mut [u8],
+    work: &mut [u64],
+)
+    requires { ⌜ (32768 ≤ length (now work)) × (524288 ≤ length (now pairs)) × (e < 1024) × (rowsOf (now schema) ≤ 512) ⌝ }
+    ensures { λ _. ⌜ RowTold (now (schema .entry)) (now (instance .entry)) (now (marks .entry)) (now (named .entry)) (now (taken .entry)) (now (single .entry)) a k weak (now (pairs .entry)) (now (pairs .exit)) e (rowsOf (now (schema .entry))) ⌝ }
+{
+    let rows = schema.len() / 3;
+    let mut d: usize = 0;
+    while d < rows {
+        let v = pair_at(
+            schema,
+            instance,
+            marks,
+            named,
+            taken,
+            single,
+            a,
+            k,
+            weak,
+            e,
+            d as u32,
+            work,
+        );
+        pairs[e as usize * 512 + d] = v;
+        d += 1;
+    }
+}
+
+// The items that are no whitespace: elements, and strings that are not blank.
+fn solid(blank: &[u8], items: &[u32], texts: u64) -> u64
+    requires { ⌜ length (now items) ≤ maxWidth ⌝ }
+    ensures { λ w. ⌜ Collects (isSolid (now (blank .entry)) (now (items .entry)) texts) (length (now (items .entry))) w ⌝ }
+{
+    let mut set: u64 = 0;
+    let mut k: u32 = 0;
+    while (k as usize) < items.len() {
+        let item = tables::word(items, k as usize);
+        let space = sets::has(texts, k) & (tables::byte(blank, item as usize) == 1);
+        set = marks::add_if(set, k, !space);
+        k += 1;
+    }
+    set
+}
+
+// The first n items.
+fn first_items(items: &[u32], n: u32) -> &[u32]
+    requires { ⌜ n ≤ length (now items) ⌝ }
+    ensures { λ r. ⌜ now r ≡ take n (now (items .entry)) ⌝ }
+{
+    &items[..n as usize]
+}
+
+// The string of a content without elements: that of the one item, and otherwise the empty string.
+fn only_string(items: &[u32], n: u32) -> u32
+    ensures { λ v. ⌜ v ≡ cond (eqb n 0) 0 (getD (now (items .entry)) 0 0) ⌝ }
+{
+    if n == 0 {
+        return 0;
+    }
+    tables::word(items, 0)
+}
+
+// The entries of element e, from the attributes a and the items k that stand for all of it.
+fn pair_items(
+    schema: &[u32],
+    instance: &[u32],
+    alone: &[u8],
+    nothing: &[u8],
+    blank: &[u8],
+    e: u32,
+    attributes: u32,
+    items: &[u32],
+    texts: u64,
+    a: u64,
+    k: u64,
+    weak: bool,
+    pairs: &mut [u8],
+    marks: &mut [u64],
+    named: &mut [u64],
+    taken: &mut [u64],
+    single: &mut [u64],
+    work: &mut [u64],
+)
+    requires { ⌜ (32768 ≤ length (now work)) × (524288 ≤ length (now pairs)) × (e < 1024) × (rowsOf (now schema) ≤ 512) × (512 ≤ length (now marks)) × (512 ≤ length (now named)) × (512 ≤ length (now taken)) × (512 ≤ length (now single)) ⌝ }
+    ensures { λ _. ⌜ ((bytes ends : List ℕ) → Given bytes ends (now (schema .entry)) (now (instance .entry)) (now (alone .entry)) (now (nothing .entry)) (now (blank .entry)) (now (pairs .entry)) (now (items .entry)) e attributes texts → isElement (now (instance .entry)) e ≡ true → Shown bytes ends (now (schema .entry)) (now (instance .entry)) (now (items .entry)) e attributes texts a k weak → RowRight bytes ends (now (schema .entry)) (now (instance .entry)) (now (pairs .entry)) (now (pairs .exit)) e) ⌝ }
+{
+    marks::mark(
+        schema,
+        instance,
+        alone,
+        nothing,
+        blank,
+        pairs,
+        e,
+        attributes,
+        items,
+        texts,
+        marks,
+        named,
+        taken,
+        single,
+    );
+    pair_row(
+        schema,
+        instance,
+        marks,
+        named,
+        taken,
+        single,
+        a,
+        k,
+        weak,
+        e,
+        pairs,
+        work,
+    );
+}
+
+// The entries of an element with an element among its children: whitespace is left out.
+fn pair_mixed(
+    schema: &[u32],
+    instance: &[u32],
+    alone: &[u8],
+    nothing: &[u8],
+    blank: &[u8],
+    e: u32,
+    attributes: u32,
+    a: u64,
+    items: &[u32],
+    n: u32,
+    texts: u64,
+    pairs: &mut [u8],
+    marks: &mut [u64],
+    named: &mut [u64],
+    taken: &mut [u64],
+    single: &mut [u64],
+    work: &mut [u64],
+)
+    requires { ⌜ (32768 ≤ length (now work)) × (524288 ≤ length (now pairs)) × (e < 1024) × (rowsOf (now schema) ≤ 512) × (512 ≤ length (now marks)) × (512 ≤ length (now named)) × (512 ≤ length (now taken)) × (512 ≤ length (now single)) × (n ≤ 63) × (64 ≤ length (now items)) ⌝ }
+    ensures { λ _. ⌜ ((bytes ends : List ℕ) (elements : ℕ) → Known bytes ends (now (schema .entry)) (now (instance .entry)) (now (alone .entry)) (now (nothing .entry)) (now (blank .entry)) (now (pairs .entry)) (now (items .entry)) e attributes a n texts elements → elements ≢ 0 → RowRight bytes ends (now (schema .entry)) (now (instance .entry)) (now (pairs .entry)) (now (pairs .exit)) e) ⌝ }
+{
+    let content = first_items(items, n);
+    let k = solid(blank, content, texts);
+    pair_items(
+        schema,
+        instance,
+        alone,
+        nothing,
+        blank,
+        e,
+        attributes,
+        content,
+        texts,
+        a,
+        k,
+        false,
+        pairs,
+        marks,
+        named,
+        taken,
+        single,
+        work,
+    );
+}
+
+// The entries of an element with no element among its children: its content is one string.
+fn pair_simple(
+    schema: &[u32],
+    instance: &[u32],
+    alone: &[u8],
+    nothing: &[u8],
+    blank: &[u8],
+    e: u32,
+    attributes: u32,
+    a: u64,
+    items: &mut [u32],
+    n: u32,
+    pairs: &mut [u8],
+    marks: &mut [u64],
+    named: &mut [u64],
+    taken: &mut [u64],
+    single: &mut [u64],
+    work: &mut [u64],
+)
+    requires { ⌜ (32768 ≤ length (now work)) × (524288 ≤ length (now pairs)) × (e < 1024) × (rowsOf (now schema) ≤ 512) × (512 ≤ length (now marks)) × (512 ≤ length (now named)) × (512 ≤ length (now taken)) × (512 ≤ length (now single)) × (64 ≤ length (now items)) ⌝ }
+    ensures { λ _. ⌜ ((bytes ends : List ℕ) (texts elements : ℕ) → Known bytes ends (now (schema .entry)) (now (instance .entry)) (now (alone .entry)) (now (nothing .entry)) (now (blank .entry)) (now (pairs .entry)) (now (items .entry)) e attributes a n texts elements → elements ≡ 0 → RowRight bytes ends (now (schema .entry)) (now (instance .entry)) (now (pairs .entry)) (now (pairs .exit)) e) ⌝ }
+{
+    let v = only_string(items, n);
+    items[0] = v;
+    let weak = tables::byte(blank, v as usize) == 1;
+    let content = first_items(items, 1);
+    pair_items(
+        schema,
+        instance,
+        alone,
+        nothing,
+        blank,
+        e,
+        attributes,
+        content,
+        1,
+        a,
+        1,
+        weak,
+        pairs,
+        marks,
+        named,
+        taken,
+        single,
+        work,
+    );
+}
+
+// The entries of an element, where those of the later rows are right.
+fn pair_element(
+    schema: &[u32],
+    instance: &[u32],
+    alone: &[u8],
+    nothing: &[u8],
+    blank: &[u8],
+    e: u32,
+    items: &mut [u32],
+    pairs: &mut [u8],
+    marks: &mut [u64],
+    named: &mut [u64],
+    taken: &mut [u64],
+    single: &mut [u64],
+    work: &mut [u64],
+)
+    requires { ⌜ (32768 ≤ length (now work)) × (524288 ≤ length (now pairs)) × (e < 1024) × (rowsOf (now schema) ≤ 512) × (512 ≤ length (now marks)) × (512 ≤ length (now named)) × (512 ≤ length (now taken)) × (512 ≤ length (now single)) × (64 ≤ length (now items)) × (nodesOf (now instance) ≤ 1024) × (e < nodesOf (now instance)) ⌝ }
+    ensures { λ _. ⌜ ((bytes ends : List ℕ) → Filling bytes ends (now (schema .entry)) (now (instance .entry)) (now (alone .entry)) (now (nothing .entry)) (now (blank .entry)) (now (pairs .entry)) (e + 1) → isElement (now (instance .entry)) e ≡ true → RowRight bytes ends (now (schema .entry)) (now (instance .entry)) (now (pairs .entry)) (now (pairs .exit)) e) ⌝ }
+{
+    let attributes = contents::attributes(instance, e);
+    let a = contents::below(attributes);
+    let n = contents::children(instance, e, items);
+    let texts = contents::of_kind(instance, items, n, instance::TEXT);
+    let elements = contents::of_kind(instance, items, n, instance::ELEMENT);
+    contents::to_items(instance, items, n);
+    if instance::MAX_WIDTH < n {
+        return;
+    }
+    if elements != 0 {
+        pair_mixed(
+            schema,
+            instance,
+            alone,
+            nothing,
+            blank,
+            e,
+            attributes,
+            a,
+            items,
+            n,
+            texts,
+            pairs,
+            marks,
+            named,
+            taken,
+            single,
+            work,
+        );
+        return;
+    }
+    pair_simple(
+        schema,
+        instance,
+        alone,
+        nothing,
+        blank,
+        e,
+        attributes,
+        a,
+        items,
+        n,
+        pairs,
+        marks,
+        named,
+        taken,
+        single,
+        work,
+    );
+}
+
+// The entries of instance row e: one that is no element has none.
+fn pair_node(
+    schema: &[u32],
+    instance: &[u32],
+    alone: &[u8],
+    nothing: &[u8],
+    blank: &[u8],
+    e: u32,
+    items: &mut [u32],
+    pairs: &mut [u8],
+    marks: &mut [u64],
+    named: &mut [u64],
+    taken: &mut [u64],
+    single: &mut [u64],
+    work: &mut [u64],
+)
+    requires { ⌜ (32768 ≤ length (now work)) × (524288 ≤ length (now pairs)) × (e < 1024) × (rowsOf (now schema) ≤ 512) × (512 ≤ length (now marks)) × (512 ≤ length (now named)) × (512 ≤ length (now taken)) × (512 ≤ length (now single)) × (64 ≤ length (now items)) × (nodesOf (now instance) ≤ 1024) × (e < nodesOf (now instance)) ⌝ }
+    ensures { λ _. ⌜ ((bytes ends : List ℕ) → Filling bytes ends (now (schema .entry)) (now (instance .entry)) (now (alone .entry)) (now (nothing .entry)) (now (blank .entry)) (now (pairs .entry)) (e + 1) → Filling bytes ends (now (schema .entry)) (now (instance .entry)) (now (alone .entry)) (now (nothing .entry)) (now (blank .entry)) (now (pairs .exit)) e) ⌝ }
+{
+    if instance::kind(instance, e) != instance::ELEMENT {
+        return;
+    }
+    pair_element(
+        schema,
+        instance,
+        alone,
+        nothing,
+        blank,
+        e,
+        items,
+        pairs,
+        marks,
+        named,
+        taken,
+        single,
+        work,
+    );
+}
+
+// The entries of all instance rows, from the last to the first: the children of an element stand at later rows.
+fn pair_all(
+    schema: &[u32],
+    instance: &[u32],
+    alone: &[u8],
+    nothing: &[u8],
+    blank: &[u8],
+    items: &mut [u32],
+    pairs: &mut [u8],
+    marks: &mut [u64],
+    named: &mut [u64],
+    taken: &mut [u64],
+    single: &mut [u64],
+    work: &mut [u64],
+)
+    requires { ⌜ (32768 ≤ length (now work)) × (524288 ≤ length (now pairs)) × (rowsOf (now schema) ≤ 512) × (512 ≤ length (now marks)) × (512 ≤ length (now named)) × (512 ≤ length (now taken)) × (512 ≤ length (now single)) × (64 ≤ length (now items)) × (nodesOf (now instance) ≤ 1024) ⌝ }
+    ensures { λ _. ⌜ ((bytes ends : List ℕ) → Filling bytes ends (now (schema .entry)) (now (instance .entry)) (now (alone .entry)) (now (nothing .entry)) (now (blank .entry)) (now (pairs .entry)) (nodesOf (now (instance .entry))) → Filling bytes ends (now (schema .entry)) (now (instance .entry)) (now (alone .entry)) (now (nothing .entry)) (now (blank .entry)) (now (pairs .exit)) 0) ⌝ }
+{
+    let mut r = instance.len() / 5;
+    while r > 0 {
+        r -= 1;
+        pair_node(
+            schema,
+            instance,
+            alone,
+            nothing,
+            blank,
+            r as u32,
+            items,
+            pairs,
+            marks,
+            named,
+            taken,
+            single,
+            work,
+        );
+    }
+}
