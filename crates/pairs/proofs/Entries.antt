@@ -1,5 +1,5 @@
 -- The entries of one element, and the table from the last row to the first.
-use Prim.Native.Nat.{ℕ, suc, _+_, _≤_, _<_}
+use Prim.Native.Nat.{ℕ, suc, _+_, _*_, _≤_, _<_}
 use mathlib.Core.Path.{_≡_, refl, sym, _∙_, ap}
 use mathlib.Core.Bool.{Bool, true, false, cond, true≢false}
 use mathlib.Core.List.{List}
@@ -10,6 +10,8 @@ use lib.Dec.{eqb}
 use lib.ListN.{length, getD, take, set, length-set}
 use lib.Seq.{getD-take, getD-set-same, length-take-le}
 use borrow.Author.Tests.{eq-eqb, eqb-true}
+use Rattle.tables.specs.Outputs.{zeros}
+use Rattle.tables.proofs.Fill.{getD-zeros}
 use Rattle.strings.specs.Strings.{at-front}
 use Rattle.strings.proofs.Table.{ends-of, few-strings}
 use Rattle.schema.specs.Rows.{rowsOf, bOf}
@@ -31,7 +33,8 @@ use Rattle.matching.specs.Setting.{Setting, Asked}
 use Rattle.contents.specs.Contents.{Counted, Children, ofKind, Itemized, Contents}
 use Rattle.contents.proofs.AttributeWord.{value-string, few-counted}
 use Rattle.contents.proofs.ItemRuns.{Kind, is-text, is-element, kind-at, child-at, collected-contents}
-use Rattle.pairs.specs.Pairs.{IsPair, PairsFrom}
+use Rattle.alone.specs.Alone.{Filled}
+use Rattle.pairs.specs.Pairs.{IsPair, PairsFrom, TablesPass}
 use Rattle.pairs.specs.Rows.{FitsDefinition, RowKept, RowTold, Shown, RowRight, Filling, Known, isSolid}
 use Rattle.pairs.proofs.Showing.{text-item, mixed-shown, simple-shown, string-known}
 
@@ -54,6 +57,15 @@ module _ {bytes ends s t alone nothing blank pairs items marks named taken singl
       from d p = record { defined = p .defined; has-name = p .named; content = ⊎-map (λ x. (omega arith, x)) (λ x. (x .0, (omega arith, x .1))) (shown .content (bOf s d) .0 (p .content)) }
 
 module _ {bytes ends s t alone nothing blank pairs : List ℕ} where
+  -- before the last row: no entry is asked, and all are 0
+  pub filling-start : (n : ℕ) → TablesPass bytes ends s t → Filled bytes ends s alone nothing blank → pairs ≡ zeros n → Filling bytes ends s t alone nothing blank pairs (nodesOf t)
+  filling-start n pass filled z = record {
+    pass = pass;
+    filled = filled;
+    from = record { entries = λ e d h l m. absurd (omega arith) };
+    empty = λ e d h l. ap (λ (w : List ℕ). pairEntry w e d) z ∙ getD-zeros n (e * maxRows + d);
+  }
+
   -- one row more: that of an element, and another
   pub filling-row : {after : List ℕ} {r : ℕ} → Filling bytes ends s t alone nothing blank pairs (r + 1) → RowRight bytes ends s t pairs after r → Filling bytes ends s t alone nothing blank after r
   filling-row {after} {r} f w = record {

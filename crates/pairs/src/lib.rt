@@ -7,9 +7,11 @@ ghost use Prim.Native.Nat.{ℕ, _+_, _*_, _≤_, _<_};
 ghost use lib.Dec.{eqb};
 ghost use lib.ListN.{length, getD, take};
 ghost use Rattle.tables.specs.Answers.{Decides};
+ghost use Rattle.schema.specs.RowRule.{maxRows};
 ghost use Rattle.schema.specs.Rows.{rowsOf};
 ghost use Rattle.instance.specs.Width.{maxWidth};
 ghost use Rattle.matching.specs.Setting.{Setting, Asked, Related};
+ghost use Rattle.instance.specs.NodeRule.{maxNodes};
 ghost use Rattle.instance.specs.Nodes.{nodesOf};
 ghost use Rattle.instance.specs.Elements.{isElement};
 ghost use Rattle.marks.specs.Given.{Given};
@@ -466,4 +468,44 @@ fn pair_all(
             work,
         );
     }
+}
+
+// The table of pairs of tables that pass, with room for every instance row and every schema row; a table without that room is left as it is.
+pub fn pair_table(bytes: &[u8], ends: &[u32], schema: &[u32], instance: &[u32], pairs: &mut [u8])
+    ensures { λ _. ⌜ (maxNodes * maxRows ≤ length (now (pairs .entry)) → TablesPass (now (bytes .entry)) (now (ends .entry)) (now (schema .entry)) (now (instance .entry)) → PairsRight (now (bytes .entry)) (now (ends .entry)) (now (schema .entry)) (now (instance .entry)) (now (pairs .exit))) ⌝ }
+{
+    if pairs.len() < 524288 {
+        return;
+    }
+    if 512 < schema.len() / 3 {
+        return;
+    }
+    if 1024 < instance.len() / 5 {
+        return;
+    }
+    tables::zero_u8(pairs);
+    let mut alone = [0u8; 262144];
+    let mut nothing = [0u8; 512];
+    let mut blank = [0u8; 512];
+    alone::fill(bytes, ends, schema, &mut alone, &mut nothing, &mut blank);
+    let mut items = [0u32; 64];
+    let mut marks = [0u64; 512];
+    let mut named = [0u64; 512];
+    let mut taken = [0u64; 512];
+    let mut single = [0u64; 512];
+    let mut work = [0u64; 32768];
+    pair_all(
+        schema,
+        instance,
+        &alone,
+        &nothing,
+        &blank,
+        &mut items,
+        pairs,
+        &mut marks,
+        &mut named,
+        &mut taken,
+        &mut single,
+        &mut work,
+    );
 }
