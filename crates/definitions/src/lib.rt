@@ -20,6 +20,7 @@ fn definition_count(schema: &[u32], d: u32) -> u32
 // The rows of the definitions, in rising order, and how many there are; nothing is written where there is not room for every row.
 pub fn definitions(schema: &[u32], rows: &mut [u32]) -> u32
     ensures { λ n. ⌜ (rowsOf (now (schema .entry)) ≤ maxRows → maxRows ≤ length (now (rows .entry)) → Definitions (now (schema .entry)) (now (rows .exit)) n) ⌝ }
+    ensures few { λ n. ⌜ n ≤ maxRows ⌝ }
 {
     let all = schema.len() / 3;
     if 512 < all {

@@ -48,7 +48,7 @@ some-row {strings} {s} right = at (rowsOf s) refl
     at (suc n) e = omega arith
 
 -- row 0 is an element
-root-element : {strings : ℕ} {t : List ℕ} → NodesRight strings t → isElement t 0 ≡ true
+pub root-element : {strings : ℕ} {t : List ℕ} → NodesRight strings t → isElement t 0 ≡ true
 root-element right = eq-eqb _ _ (rooted right .root-kind (some-node right))
 
 -- a ref names a definition, which is a row of the table

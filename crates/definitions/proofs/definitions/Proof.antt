@@ -22,11 +22,11 @@ abbrev μ-loop : tie.MeasureT-loop
 
 -- src/lib.rt:26:9
 returns : tie.Need-returns Inv-loop μ-loop
-returns c h l = absurd (omega arith)
+returns c = (λ h l. absurd (omega arith), omega arith)
 
 -- src/lib.rt:29:9
 returns-2 : tie.Need-returns-2 Inv-loop μ-loop
-returns-2 c h l = absurd (omega arith)
+returns-2 c = (λ h l. absurd (omega arith), omega arith)
 
 -- src/lib.rt:33:5
 loop-holds : tie.Need-loop-holds Inv-loop μ-loop
@@ -78,10 +78,12 @@ same-length c = search needs
 
 -- src/lib.rt:21:1
 returns-3 : tie.Need-returns-3 Inv-loop μ-loop
-returns-3 c h l =
+returns-3 c =
     let i = c .before .loop .inv in
+    let x = i .2 .few in
+    let y = i .0 in
     let e : c .before .loop .d ≡ rowsOf (now (c .before .before .before .before .before .before .args .schema)) = omega (arith, i .0) in
-    rw e at (i .2)
+    (λ h l. rw e at (i .2), omega arith)
 
 pub definitions-spec : {M : Type 1} → statement M
 definitions-spec =
