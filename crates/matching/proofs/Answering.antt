@@ -15,8 +15,8 @@ use Rattle.schema.specs.Kinds as kind
 use Rattle.schema.specs.Relations.{connective}
 use Rattle.schema.specs.Rows.{kindOf, aOf, bOf}
 use Rattle.schema.specs.Views.{Pattern, notAllowed, noPattern, patternBy, patternOf}
-use Rattle.sets.specs.Relations.{Or, And, Then}
-use Rattle.sets.specs.Words.{Holds, Is, Empty, Gap, Single, Up, front, next}
+use Rattle.relations.specs.Relations.{Or, And, Then}
+use Rattle.relations.specs.Words.{Holds, Is, Empty, Gap, Single, Up, front, next}
 use Rattle.sets.proofs.Members.{and-has, none-has}
 use Rattle.rules.proofs.Booleans.{and-left, and-right, is-false}
 use Rattle.rules.proofs.Passing.{restricted}

@@ -11,8 +11,8 @@ use lib.ListN.{length, take}
 use lib.Seq.{drop-at, take-append-le, length-take-le}
 use borrow.Rule.Slice.PartMut.{putMid, postOf, take-put}
 use Rattle.sets.specs.Bits.{positions, bit}
-use Rattle.sets.specs.Relations.{Relation, Or, Plus}
-use Rattle.sets.specs.Words.{Holds, Is, Empty, Gap, front, next}
+use Rattle.relations.specs.Relations.{Relation, Or, Plus}
+use Rattle.relations.specs.Words.{Holds, Is, Empty, Gap, front, next}
 use Rattle.sets.proofs.Bits.{subset-test}
 use Rattle.sets.proofs.Members.{none-has}
 use Rattle.sets.proofs.Ones.{one-member}

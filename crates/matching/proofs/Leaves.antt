@@ -12,9 +12,9 @@ use borrow.Author.Tests.{eqb-true, eq-eqb, not-true, not-false}
 use Rattle.schema.specs.Rows.{rowsOf}
 use Rattle.schema.specs.Views.{empty, notAllowed, text, dataAll, dataExcept, value, attribute, ref, noPattern, patternOf}
 use Rattle.sets.specs.Bits.{positions, bit}
-use Rattle.sets.specs.Relations.{Relation}
-use Rattle.sets.specs.Words.{Is, Empty, Gap, Single}
-use Rattle.sets.proofs.Words.{is-map}
+use Rattle.relations.specs.Relations.{Relation}
+use Rattle.relations.specs.Words.{Is, Empty, Gap, Single}
+use Rattle.relations.proofs.Words.{is-map}
 use Rattle.sets.proofs.Bits.{bit-without}
 use Rattle.rules.specs.Items.{Item, element, string, Attributes, only, Lookups}
 use Rattle.rules.specs.Rules.{NotMatchBy}

@@ -10,9 +10,9 @@ use lib.ListN.{getD}
 use Rattle.schema.specs.Rows.{rowsOf}
 use Rattle.schema.specs.Views.{choice, group, interleave, patternOf}
 use Rattle.sets.specs.Bits.{positions, bit}
-use Rattle.sets.specs.Relations.{Relation, Or, And, Then}
-use Rattle.sets.specs.Words.{Holds, Is}
-use Rattle.sets.proofs.Words.{is-map}
+use Rattle.relations.specs.Relations.{Relation, Or, And, Then}
+use Rattle.relations.specs.Words.{Holds, Is}
+use Rattle.relations.proofs.Words.{is-map}
 use Rattle.rules.specs.Items.{Attributes, Lookups}
 use Rattle.rules.specs.Rules.{NotMatchBy}
 use Rattle.rules.specs.Job.{lookups}

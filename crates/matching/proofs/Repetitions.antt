@@ -11,11 +11,11 @@ use lib.ListN.{getD}
 use Rattle.schema.specs.Rows.{rowsOf}
 use Rattle.schema.specs.Views.{oneOrMore, patternOf}
 use Rattle.sets.specs.Bits.{positions, bit}
-use Rattle.sets.specs.Relations.{Relation, Plus, once, more}
-use Rattle.sets.specs.Words.{Holds, Is, Up}
+use Rattle.relations.specs.Relations.{Relation, Plus, once, more}
+use Rattle.relations.specs.Words.{Holds, Is, Up}
 use Rattle.sets.proofs.Least.{trailing}
 use Rattle.sets.proofs.Members.{none-has}
-use Rattle.sets.proofs.Words.{is-map, is-up}
+use Rattle.relations.proofs.Words.{is-map, is-up}
 use Rattle.rules.specs.Items.{Attributes, none, only, Lookups}
 use Rattle.rules.specs.Rules.{Match, NotMatchBy}
 use Rattle.rules.specs.Job.{lookups}

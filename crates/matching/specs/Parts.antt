@@ -6,8 +6,8 @@ use mathlib.Core.List.{List}
 use Rattle.schema.specs.Rows.{kindOf, aOf, bOf}
 use Rattle.schema.specs.Relations.{connective}
 use Rattle.sets.specs.Bits.{bit, Only}
-use Rattle.sets.specs.Relations.{Relation, Or, Plus}
-use Rattle.sets.specs.Words.{Gap, front, next}
+use Rattle.relations.specs.Relations.{Relation, Or, Plus}
+use Rattle.relations.specs.Words.{Gap, front, next}
 use Rattle.matching.specs.Setting.{Answers}
 
 -- R under a condition

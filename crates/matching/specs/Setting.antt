@@ -7,8 +7,8 @@ use lib.ListN.{length}
 use Rattle.schema.specs.Rows.{rowsOf}
 use Rattle.restrictions.proofs.Passes.{SchemaPasses}
 use Rattle.sets.specs.Bits.{positions, bit}
-use Rattle.sets.specs.Relations.{Relation}
-use Rattle.sets.specs.Words.{Is}
+use Rattle.relations.specs.Relations.{Relation}
+use Rattle.relations.specs.Words.{Is}
 use Rattle.rules.specs.Items.{Item}
 use Rattle.rules.specs.Rules.{NotMatchBy}
 use Rattle.rules.specs.Job.{lookups}

@@ -3,7 +3,7 @@ ghost use mathlib.Core.Path.{_≡_};
 ghost use Prim.Native.Nat.{_+_, _*_, _≤_};
 ghost use lib.ListN.{length};
 ghost use Rattle.schema.specs.Rows.{kindOf};
-ghost use Rattle.sets.specs.Words.{Is, Holds, Up, front, Gap, Single};
+ghost use Rattle.relations.specs.Words.{Is, Holds, Up, front, Gap, Single};
 ghost use Rattle.matching.specs.Parts.{Where, OneIn, Repeats, AnswersLeaf, Operands};
 ghost use Rattle.matching.specs.Setting.{Answers};
 
@@ -12,10 +12,10 @@ fn no_items(a: u64, stop: u64, work: &mut [u64])
     ensures { λ _. ⌜ (64 ≤ length (now (work .entry)) → Is (front (now (work .exit))) (Where (a ≡ 0) (Gap stop))) ⌝ }
 {
     if a == 0 {
-        sets::gaps(stop, work);
+        relations::gaps(stop, work);
         return;
     }
-    sets::clear(work);
+    relations::clear(work);
 }
 
 // No attributes, and one item of all, a marked one.
@@ -23,10 +23,10 @@ fn one_item(a: u64, all: u64, marked: u64, work: &mut [u64])
     ensures { λ _. ⌜ (64 ≤ length (now (work .entry)) → Is (front (now (work .exit))) (Where (a ≡ 0) (Single all marked))) ⌝ }
 {
     if a == 0 {
-        sets::singles(all, marked, work);
+        relations::singles(all, marked, work);
         return;
     }
-    sets::clear(work);
+    relations::clear(work);
 }
 
 // One attribute, a marked one, and no item of k.
@@ -35,11 +35,11 @@ fn one_attribute(a: u64, marked: u64, k: u64, work: &mut [u64])
 {
     if sets::count(a) == 1 {
         if a & !marked == 0 {
-            sets::gaps(k, work);
+            relations::gaps(k, work);
             return;
         }
     }
-    sets::clear(work);
+    relations::clear(work);
 }
 
 // The relation of a row without operands: mark has the items that it takes, or the attributes.
@@ -53,7 +53,7 @@ fn leaf(schema: &[u32], marks: &[u64], a: u64, k: u64, p: u32, work: &mut [u64])
         3 => no_items(a, k & !mark, work),
         4 | 5 | 8 => one_item(a, k, mark, work),
         7 => one_attribute(a, mark, k, work),
-        _ => sets::clear(work),
+        _ => relations::clear(work),
     }
 }
 
@@ -63,15 +63,15 @@ fn repeated(a: u64, k: u64, alone: u64, work: &mut [u64])
     ensures { λ _. ⌜ (Up (Holds (front (now (work .entry)))) → Is (front (now (work .exit))) (Repeats a k alone (Holds (front (now (work .entry)))))) ⌝ }
 {
     if a & !alone != 0 {
-        sets::clear(work);
+        relations::clear(work);
         return;
     }
-    sets::close(work);
+    relations::close(work);
     if a == 0 {
         return;
     }
-    sets::gaps(k, &mut work[64..]);
-    sets::union(work);
+    relations::gaps(k, &mut work[64..]);
+    relations::union(work);
 }
 
 // The relations of the operands of row p, one after the other. An operand that is no smaller row is not visited.
@@ -149,7 +149,7 @@ fn choice(
     ensures { λ _. ⌜ Answers (now (schema .entry)) (now (marks .entry)) (now (named .entry)) (now (taken .entry)) (now (single .entry)) a k p (front (now (work .exit))) ⌝ }
 {
     operands(schema, marks, named, taken, single, p, a, k, a, k, work);
-    sets::union(work);
+    relations::union(work);
 }
 
 // A group: the attributes that the first operand names go to it, and the others to the second.
@@ -171,7 +171,7 @@ fn group(
     let a1 = a & n;
     let a2 = a & !n;
     operands(schema, marks, named, taken, single, p, a1, k, a2, k, work);
-    sets::compose(work);
+    relations::compose(work);
 }
 
 // An interleave: the same of the attributes, and the items that the first operand takes go to it.
@@ -197,7 +197,7 @@ fn interleave(
     let k1 = k & t;
     let k2 = k & !t;
     operands(schema, marks, named, taken, single, p, a1, k1, a2, k2, work);
-    sets::meet(work);
+    relations::meet(work);
 }
 
 // The relation of row p in the first 64 words of work: i and j are related where the attributes a and the items of k in [i, j) match its pattern.

@@ -20,10 +20,10 @@ use Rattle.instance.specs.Nodes as node
 use Rattle.classes.specs.Membership.{inClass}
 use Rattle.restrictions.proofs.Passes.{SchemaPasses}
 use Rattle.sets.specs.Bits.{bit}
-use Rattle.sets.specs.Relations.{Relation}
-use Rattle.sets.specs.Words.{Is, front}
+use Rattle.relations.specs.Relations.{Relation}
+use Rattle.relations.specs.Words.{Is, front}
 use Rattle.sets.proofs.Members.{none-has}
-use Rattle.sets.proofs.Words.{front-at}
+use Rattle.relations.proofs.Words.{front-at}
 use Rattle.rules.proofs.Booleans.{and-left}
 use Rattle.marks.specs.Given.{pairEntry}
 use Rattle.matching.specs.Setting.{Setting, Asked}

@@ -8,9 +8,9 @@ use borrow.Fn.PlainCycle.{Measures, is, falls, and}
 use Rattle.schema.proofs.field_a.Reads as field-a-reads
 use Rattle.schema.proofs.field_b.Reads as field-b-reads
 use Rattle.schema.proofs.kind.Reads as kind-reads
-use Rattle.sets.proofs.compose.Reads as compose-reads
-use Rattle.sets.proofs.meet.Reads as meet-reads
-use Rattle.sets.proofs.union.Reads as union-reads
+use Rattle.relations.proofs.compose.Reads as compose-reads
+use Rattle.relations.proofs.meet.Reads as meet-reads
+use Rattle.relations.proofs.union.Reads as union-reads
 use Rattle.sets.proofs.word.Reads as word-reads
 use Rattle.matching.proofs.Answering.{answers-oneOrMore, answers-no-operand, answers-choice, answers-group, answers-interleave, operands-related, no-operands, not-connective}
 use Rattle.matching.proofs.choice.Reads as choice
