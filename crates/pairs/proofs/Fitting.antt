@@ -1,15 +1,15 @@
 -- One definition against the words of an element.
-use Prim.Native.Nat.{ℕ, _+_, _*_, _≤_, _<_}
+use Prim.Native.Nat.{ℕ, _+_, _*_, _<_}
 use mathlib.Core.Path.{_≡_, refl, sym, _∙_, ap}
-use mathlib.Core.Bool.{Bool, true, false, not, _&&_, true≢false, false≢true}
+use mathlib.Core.Bool.{Bool, true, false, true≢false, false≢true}
 use mathlib.Core.List.{List}
-use mathlib.Core.Logic.{_↔_, _⊎_, inl, inr, ⊎-elim, _≢_}
+use mathlib.Core.Logic.{_↔_, _⊎_, inr, ⊎-elim, _≢_}
 use native.Mathlib.Omega.{arith}
 use lib.ListN.{length, getD, set, length-set}
 use lib.Dec.{ltb}
 use lib.Seq.{getD-set-same, getD-set-other}
 use borrow.Author.Count.{below-more}
-use borrow.Author.Tests.{ltb-true, not-true}
+use borrow.Author.Tests.{ltb-true}
 use Rattle.tables.specs.Answers.{Decides}
 use Rattle.schema.specs.Kinds as kind
 use Rattle.schema.specs.Rows.{rowsOf, kindOf, aOf, bOf, sortOf, shapeOf, isElement, isPattern}
@@ -18,7 +18,6 @@ use Rattle.schema.proofs.Fields.{both-fields}
 use Rattle.schema.proofs.Sorts.{definition-kind}
 use Rattle.instance.specs.Nodes as node
 use Rattle.classes.specs.Membership.{inClass}
-use Rattle.restrictions.proofs.Passes.{SchemaPasses}
 use Rattle.sets.specs.Bits.{bit}
 use Rattle.relations.specs.Relations.{Relation}
 use Rattle.relations.specs.Words.{Is, front}
@@ -27,7 +26,7 @@ use Rattle.relations.proofs.Words.{front-at}
 use Rattle.rules.proofs.Booleans.{and-left}
 use Rattle.marks.specs.Given.{pairEntry}
 use Rattle.matching.specs.Setting.{Setting, Asked}
-use Rattle.pairs.specs.Rows.{Fits, FitsDefinition, TellsPair, RowKept, RowTold}
+use Rattle.pairs.specs.Rows.{Fits, FitsDefinition, TellsPair, RowTold}
 
 -- a test that reads one pair of a relation from its words
 pub word-tells : (n : ℕ) (w : List ℕ) (R : Relation) {v : ℕ} {r : Bool} → Is (front (n + 1) w) R → v ≡ getD w 0 0 → r ≡ bit v n → Decides (R 0 n) r

@@ -1,5 +1,5 @@
 -- The attributes and items that stand for an element: with an element among its children all but whitespace, and otherwise one string.
-use Prim.Native.Nat.{ℕ, zero, suc, _+_, _^_, _≤_, _<_}
+use Prim.Native.Nat.{ℕ, zero, suc, _≤_, _<_}
 use mathlib.Core.Path.{_≡_, refl, sym, _∙_, ap, subst}
 use mathlib.Core.Bool.{Bool, true, false, not, cond, _&&_, true≢false, false≢true}
 use mathlib.Core.List.{List, [], _∷_, map}
@@ -14,7 +14,7 @@ use Rattle.strings.specs.Strings.{textOf, at-front}
 use Rattle.strings.proofs.Table.{ends-of, some-string}
 use Rattle.datatypes.specs.Whitespace.{whitespace}
 use Rattle.schema.specs.Rows.{rowsOf}
-use Rattle.instance.specs.Nodes.{element, nodesOf, kindOf, aOf}
+use Rattle.instance.specs.Nodes.{element, nodesOf, aOf}
 use Rattle.instance.specs.Width.{maxWidth}
 use Rattle.instance.specs.Elements.{isElement, childrenOf}
 use Rattle.instance.proofs.Elements.{text-string}
@@ -24,7 +24,7 @@ use Rattle.rules.specs.Items.{Item, string, Attributes, Lookups}
 use Rattle.rules.specs.Items as item
 use Rattle.rules.specs.Rules.{WeakMatch, Match, NotMatchBy}
 use Rattle.rules.specs.Job.{itemOf, lookups}
-use Rattle.rules.proofs.Booleans.{is-false, and-left, and-right}
+use Rattle.rules.proofs.Booleans.{and-left, and-right}
 use Rattle.rules.proofs.Children.{first-empty, children-ok}
 use Rattle.rules.proofs.Inversion.{One}
 use Rattle.rules.proofs.OneElement.{no-element, strings-clean, stripped-clean, weak-empty, weak-string, weak-span}
@@ -32,14 +32,14 @@ use Rattle.rules.proofs.Passing.{restricted}
 use Rattle.rules.proofs.Runs.{run, kept}
 use Rattle.rules.proofs.Sequences.{hasElement}
 use Rattle.rules.proofs.Spans.{Span, span-whole}
-use Rattle.rules.proofs.Stripping.{notWhitespace, stripped}
+use Rattle.rules.proofs.Stripping.{notWhitespace}
 use Rattle.alone.specs.Alone.{Blank}
 use Rattle.marks.specs.Marks.{attributesIn}
 use Rattle.marks.specs.Given.{itemAt}
 use Rattle.marks.specs.Tests.{Collects}
 use Rattle.contents.specs.Contents.{Counted, Contents}
 use Rattle.contents.proofs.AttributeWord.{attributes-same, attributes-distinct}
-use Rattle.contents.proofs.ItemRuns.{run-members, Kind, is-text, is-element, kind-at, item-at, run-contents}
+use Rattle.contents.proofs.ItemRuns.{run-members, Kind, is-text, is-element, kind-at, run-contents}
 use Rattle.pairs.specs.Pairs.{TablesPass}
 use Rattle.pairs.specs.Rows.{Shown, isSolid}
 

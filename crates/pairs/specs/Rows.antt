@@ -1,20 +1,17 @@
 -- One row of the table of pairs while it is filled; cited by private functions only.
 use Prim.Native.Nat.{ℕ, _+_, _≤_, _<_}
 use mathlib.Core.Path.{_≡_}
-use mathlib.Core.Bool.{Bool, true, false, not, _&&_}
+use mathlib.Core.Bool.{Bool, true, not, _&&_}
 use mathlib.Core.List.{List}
 use mathlib.Core.Logic.{_↔_, _⊎_, _≢_}
 use lib.Dec.{eqb}
 use lib.ListN.{length, getD, take}
-use Rattle.tables.specs.Answers.{Decides}
-use Rattle.strings.specs.Strings.{maxStrings}
 use Rattle.schema.specs.Rows.{rowsOf, aOf, bOf, sortOf, isElement}
 use Rattle.schema.specs.RowRule.{maxRows}
 use Rattle.instance.specs.Nodes as node
 use Rattle.instance.specs.Width.{maxWidth}
 use Rattle.classes.specs.Membership.{inClass}
 use Rattle.sets.specs.Bits.{bit}
-use Rattle.rules.specs.Items.{Lookups}
 use Rattle.rules.specs.Rules.{OkAsChildren, WeakMatch, NotMatchBy}
 use Rattle.rules.specs.Job.{lookups}
 use Rattle.rules.proofs.Occurrences.{CleanAt}
@@ -48,10 +45,10 @@ pub record RowKept (before after : List ℕ) (e : ℕ) : Type 0 where
   pub size : length after ≡ length before
   pub kept : (x d : ℕ) → x ≢ e → d < maxRows → pairEntry after x d ≡ pairEntry before x d
 
--- the first entries of the row of e, so many, are told
-pub record RowTold (s t marks named taken single : List ℕ) (n a k : ℕ) (weak : Bool) (before after : List ℕ) (e many : ℕ) : Type 0 where
+-- the entries of the row of e before upto are told
+pub record RowTold (s t marks named taken single : List ℕ) (n a k : ℕ) (weak : Bool) (before after : List ℕ) (e upto : ℕ) : Type 0 where
   pub others : RowKept before after e
-  pub told : (d : ℕ) → d < many → TellsPair s t marks named taken single n a k weak e d (pairEntry after e d)
+  pub told : (d : ℕ) → d < upto → TellsPair s t marks named taken single n a k weak e d (pairEntry after e d)
 
 -- the attributes a and the items k of element e stand for all of it: its content matches weakly exactly where they fit
 pub record Shown (bytes ends s t items : List ℕ) (e attributes texts a k : ℕ) (weak : Bool) : Type 0 where
@@ -84,7 +81,6 @@ pub record Filling (bytes ends s t alone nothing blank pairs : List ℕ) (r : �
 pub record Known (bytes ends s t alone nothing blank pairs items : List ℕ) (e attributes a n texts elements : ℕ) : Type 0 where
   pub filling : Filling bytes ends s t alone nothing blank pairs (e + 1)
   pub in-table : e < node.nodesOf t
-  pub element : eqb (node.kindOf t e) node.element ≡ true
   pub counted : Counted t e attributes
   pub few : attributes ≤ maxWidth
   pub all : Collects (λ k. true) attributes a
@@ -95,7 +91,7 @@ pub record Ready (bytes ends s t alone nothing blank pairs items : List ℕ) (e 
   pub given : Given bytes ends s t alone nothing blank pairs items e attributes texts
   pub shown : Shown bytes ends s t items e attributes texts a k weak
 
--- the first items of after, so many, stand for the content that the n items of before are
+-- the first `count` items of after stand for the content that the n items of before are
 pub record StandsFor (blank before after : List ℕ) (n texts elements count strings k : ℕ) (weak : Bool) : Type 0 where
   pub few : count ≤ maxWidth
   pub ready : (bytes ends s t alone nothing pairs : List ℕ) (e attributes a : ℕ) → Known bytes ends s t alone nothing blank pairs before e attributes a n texts elements
