@@ -1,9 +1,9 @@
 -- The entries of one element, and the table from the last row to the first.
-use Prim.Native.Nat.{ℕ, _+_, _≤_, _<_}
-use mathlib.Core.Path.{_≡_, sym, _∙_, ap}
+use Prim.Native.Nat.{ℕ, suc, _+_, _≤_, _<_}
+use mathlib.Core.Path.{_≡_, refl, sym, _∙_, ap}
 use mathlib.Core.Bool.{Bool, true, false, cond, true≢false}
 use mathlib.Core.List.{List}
-use mathlib.Core.Logic.{_↔_, _⊎_, ⊎-map, _≢_}
+use mathlib.Core.Logic.{_↔_, _⊎_, inl, inr, ⊎-elim, ⊎-map, _≢_}
 use native.Mathlib.Omega.{arith}
 use native.Mathlib.Decide.{ℕ-discrete}
 use lib.Dec.{eqb}
@@ -13,6 +13,7 @@ use borrow.Author.Tests.{eq-eqb, eqb-true}
 use Rattle.strings.specs.Strings.{at-front}
 use Rattle.strings.proofs.Table.{ends-of, few-strings}
 use Rattle.schema.specs.Rows.{rowsOf, bOf}
+use Rattle.schema.specs.RowRule.{maxRows}
 use Rattle.schema.proofs.RowLaws.{few-rows, right-size}
 use Rattle.instance.specs.Nodes.{element, text, nodesOf, kindOf}
 use Rattle.instance.specs.Width.{maxWidth}
@@ -30,8 +31,8 @@ use Rattle.matching.specs.Setting.{Setting, Asked}
 use Rattle.contents.specs.Contents.{Counted, Children, ofKind, Itemized, Contents}
 use Rattle.contents.proofs.AttributeWord.{value-string, few-counted}
 use Rattle.contents.proofs.ItemRuns.{Kind, is-text, is-element, kind-at, child-at, collected-contents}
-use Rattle.pairs.specs.Pairs.{IsPair}
-use Rattle.pairs.specs.Rows.{FitsDefinition, RowTold, Shown, RowRight, Filling, Known, isSolid, Ready, StandsFor}
+use Rattle.pairs.specs.Pairs.{IsPair, PairsFrom}
+use Rattle.pairs.specs.Rows.{FitsDefinition, RowKept, RowTold, Shown, RowRight, Filling, Known, isSolid, Ready, StandsFor}
 use Rattle.pairs.proofs.Showing.{text-item, mixed-shown, simple-shown, string-known}
 
 -- what is told of each definition, where the attributes and items stand for the element
