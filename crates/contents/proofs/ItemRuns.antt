@@ -114,9 +114,9 @@ module _ {t : List ℕ} {e : ℕ} {items : List ℕ} {n texts elements : ℕ} (c
         go (is-element i b j) = rw (b, i, j)
 
     -- the items that pass a test
-    pub run-contents : (P : Item → Bool) (w : ℕ) → ((k : ℕ) → bit w k ≡ (ltb k n && P (itemAt bytes ends items texts k))) → run (itemAt bytes ends items texts) (bit w) 0 maxWidth ≡ kept P (lookups bytes ends s t .children e)
+    pub run-contents : (P : Item → Bool) (w : ℕ) → ((k : ℕ) → bit w k ≡ (ltb k n && P (itemAt bytes ends items texts k))) → run (itemAt bytes ends items texts) (bit w) 0 n ≡ kept P (lookups bytes ends s t .children e)
     run-contents P w f =
-        run-members P (itemOf bytes ends s t 0) (map (itemOf bytes ends s t) (childrenOf t e)) (itemAt bytes ends items texts) (bit w) maxWidth (let m = c .few in omega (arith, size)) at tested past
+        run-members P (itemOf bytes ends s t 0) (map (itemOf bytes ends s t) (childrenOf t e)) (itemAt bytes ends items texts) (bit w) n (omega (arith, size)) at tested past
       where
         size : length (map (itemOf bytes ends s t) (childrenOf t e)) ≡ n
         size = length-map (childrenOf t e) (itemOf bytes ends s t) ∙ sym (c .count)
