@@ -1,8 +1,9 @@
 -- What a step of the writer does: it puts a text into an output from a position on, as far as it fits, and answers with the position after it. Cited by private functions only.
-use Prim.Native.Nat.{ℕ, _+_, _%_, _≤_}
+use Prim.Native.Nat.{ℕ, _+_, _%_, _≤_, _<_}
 use mathlib.Core.Path.{_≡_}
 use mathlib.Core.List.{List}
 use lib.ListN.{length}
+use Rattle.tables.specs.Outputs.{zeros}
 use lib.Seq.{sets}
 use Rattle.tables.specs.declared.Verdict.{Verdict}
 use Rattle.tables.specs.declared.Verdict.the-variants.{Passed, Refused}
@@ -35,3 +36,8 @@ pub record Sized (bytes ends schema instance : List ℕ) : Type 0 where
 abbrev pub notWritten : Verdict → JobWritten
 notWritten Passed = NotWritten 0 0
 notWritten (Refused code place) = NotWritten code place
+
+-- a text of so many bytes was put; it stays where it fits, and is taken back to zeros where it does not
+pub record Kept (before : List ℕ) (n : ℕ) (after : List ℕ) (r : ℕ) : Type 0 where
+  pub fits : n ≤ length before → (after ≡ before) × (r ≡ n)
+  pub short : length before < n → (after ≡ zeros (length before)) × (r ≡ 0)
