@@ -1,13 +1,15 @@
 -- What a job file reads as fits the tables that are lent, and comes back from their fronts.
-use Prim.Native.Nat.{ℕ, _+_, _*_, _/_, _≤_}
+use Prim.Native.Nat.{ℕ, _*_, _≤_, _<_}
 use mathlib.Core.Path.{_≡_, refl, sym, _∙_, ap, subst}
 use mathlib.Core.Bool.{Bool, true, false, cond}
 use mathlib.Core.List.{List, _++_}
+use native.Mathlib.Decide.{decLt}
 use native.Mathlib.Omega.{arith}
 use lib.ListN.{length, take, length-replicate}
 use lib.Seq.{take-take, take-append-seam}
 use borrow.Author.Tests.{le-leb}
 use Rattle.tables.specs.Outputs.{zeros, laid}
+use Rattle.tables.proofs.Numbers.{not-less}
 use Rattle.schema.specs.Rows.{rowsOf}
 use Rattle.instance.specs.Nodes.{nodesOf}
 use Rattle.jobs.specs.Reading.{Tables, Reading, read, wrong, readJob}
@@ -95,6 +97,17 @@ lent-list {bytes} {ends} {s} {t} {list} {r} = subst (λ (room : ℕ). ListsMatch
 
 pub is-answered : {bytes ends s t list out : List ℕ} {room n : ℕ} {r q : Matches} → ListsMatches bytes ends s t listRoom list r → r ≡ q → TextIn (answerText q list) room out n → Answered bytes ends s t room out n
 is-answered {list = list} {r = r} lists e w = record { list = list; matches = r; lists = lists; written = rw e w }
+
+-- no more is answered than the output has room for
+text-within : {text out : List ℕ} {room n : ℕ} → TextIn text room out n → n ≤ room
+text-within {text} {out} {room} {n} w = go (decLt room (length text))
+  where
+    go : Dec (room < length text) → n ≤ room
+    go (yes h) = let e = w .short h .1 in omega arith
+    go (no f) = let l = not-less f in let e = w .fits l .1 in omega arith
+
+pub and-within : {file out : List ℕ} {room n : ℕ} → Reported file room out n → Reported file room out n × (n ≤ room)
+and-within r = (r, text-within (r .written))
 
 -- the counts keep to the tables that are lent
 pub record Within (b s r n : ℕ) : Type 0 where

@@ -2,7 +2,7 @@ use mathlib.Core.Path.{sym, subst}
 use native.Mathlib.Omega.{arith}
 use lib.Seq.{length-take-le}
 use denote.Ref.{now}
-use Rattle.report.proofs.Job.{Told, told, within, report-wrong, report-read}
+use Rattle.report.proofs.Job.{Told, told, and-within, within, report-wrong, report-read}
 use borrow.Author.Needs.{needs}
 use Rattle.report.proofs.report.Statement.{statement}
 use Rattle.report.proofs.report.Tie as tie
@@ -110,7 +110,7 @@ same-length c = search needs
 
 -- src/lib.rt:33:1
 returns : tie.Need-returns
-returns c = report-read (subst (Told (now (c .before .before .before .before .before .before .before .before .before .before .before .before .before .before .before .before .before .before .before .before .before .before .args .file))) (c .before .before .before .before .before .before .before .before .before .job .given .1) (told (now (c .before .before .before .before .before .before .before .before .before .before .before .before .before .before .before .before .before .before .before .before .before .before .args .file)) (c .before .before .before .before .before .before .before .before .before .before .before .before .before .before .before .read-job .ensures .0))) (c .before .before .before .before .before .before .before .before .before .before .before .before .before .before .before .read-job .ensures .1) (c .before .before .answer .ensures)
+returns c = and-within (report-read (subst (Told (now (c .before .before .before .before .before .before .before .before .before .before .before .before .before .before .before .before .before .before .before .before .before .before .args .file))) (c .before .before .before .before .before .before .before .before .before .job .given .1) (told (now (c .before .before .before .before .before .before .before .before .before .before .before .before .before .before .before .before .before .before .before .before .before .before .args .file)) (c .before .before .before .before .before .before .before .before .before .before .before .before .before .before .before .read-job .ensures .0))) (c .before .before .before .before .before .before .before .before .before .before .before .before .before .before .before .read-job .ensures .1) (c .before .before .answer .ensures))
 
 -- src/lib.rt:33:1
 same-length-2 : tie.Need-same-length-2
@@ -118,7 +118,7 @@ same-length-2 c = search needs
 
 -- src/lib.rt:33:1
 returns-2 : tie.Need-returns-2
-returns-2 c = report-wrong (subst (Told (now (c .before .before .before .before .before .before .before .before .before .before .before .before .before .before .before .before .before .before .args .file))) (c .before .before .before .before .before .job2 .given .1) (told (now (c .before .before .before .before .before .before .before .before .before .before .before .before .before .before .before .before .before .before .args .file)) (c .before .before .before .before .before .before .before .before .before .before .before .read-job .ensures .0))) (c .before .before .write-refusal .ensures)
+returns-2 c = and-within (report-wrong (subst (Told (now (c .before .before .before .before .before .before .before .before .before .before .before .before .before .before .before .before .before .before .args .file))) (c .before .before .before .before .before .job2 .given .1) (told (now (c .before .before .before .before .before .before .before .before .before .before .before .before .before .before .before .before .before .before .args .file)) (c .before .before .before .before .before .before .before .before .before .before .before .read-job .ensures .0))) (c .before .before .write-refusal .ensures))
 
 pub report-spec : {M : Type 1} → statement M
 report-spec =
