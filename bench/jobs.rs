@@ -1,5 +1,6 @@
-// Writes the jobs of the benchmark into a folder: an article near the limits, with its schema and its text as XML for
-// another validator, and the jobs that look slow.
+// Writes the jobs of the benchmark into a folder: an article near the limits with the answer of the reference, its
+// schema and its text as XML for another validator, and the jobs that look slow with a list of them: name, how the
+// answer begins, and what is slow.
 // Build at the top of the repository: rustc -O --edition 2021 -o target/bench/jobs bench/jobs.rs
 
 #[path = "article.rs"]
@@ -12,6 +13,8 @@ mod maker;
 #[allow(dead_code)]
 #[path = "../tests/reference/check.rs"]
 mod reference;
+#[path = "slow.rs"]
+mod slow;
 
 use reference::job::{self, Job};
 use std::fs;
@@ -28,8 +31,17 @@ fn main() {
     let folder = Path::new(&folder);
     let put = |name: &str, text: &str| fs::write(folder.join(name), text).expect("the folder can be written");
     let article = article::article();
-    put("article.job", &job::write(&article.job));
+    let text = job::write(&article.job);
+    put("article.job", &text);
+    put("article.out", &reference::check(text.as_bytes()));
     put("article.rng", &article.schema);
     put("article.xml", &article.document);
     println!("article: {}", sizes(&article.job));
+    let mut list = String::new();
+    for slow in slow::slow_jobs() {
+        put(&format!("slow_{}.job", slow.name), &job::write(&slow.job));
+        list += &format!("{}\t{}\t{}\n", slow.name, slow.begins.trim().replace('\n', " "), slow.what);
+        println!("{}: {}", slow.name, sizes(&slow.job));
+    }
+    put("slow.txt", &list);
 }
