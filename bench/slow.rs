@@ -98,8 +98,8 @@ fn nested() -> Vec<Slow> {
         slow("choice_right", of(63, choices, true), true, 64, "250 choices nested right, 63 children"),
         slow("group_left", of(62, groups, false), true, 63, "247 groups nested left, 62 children"),
         slow("group_right", of(62, groups, true), true, 63, "247 groups nested right, 62 children"),
-        slow("optional_left", of(63, optional, false), true, 64, "100 optional repeats in a group, nested left, 63 children"),
-        slow("optional_right", of(63, optional, true), true, 64, "100 optional repeats in a group, nested right, 63 children"),
+        slow("optional_left", of(63, optional, false), true, 64, "100 optional repeats grouped left, 63 children"),
+        slow("optional_right", of(63, optional, true), true, 64, "100 optional repeats grouped right, 63 children"),
         slow("repeat_of_groups", of(63, &both, true), true, 64, "oneOrMore around each of 100 nested groups, 63 children"),
     ]
 }
@@ -181,9 +181,9 @@ fn one_definition() -> Vec<Slow> {
         slow("repeats_missing", missing(&repeats), false, 0, "the same, 63 children each, an attribute missing"),
         slow("texts_deep", of(texts, deep()), true, NODES, "1,024 elements, 249 groups of text, one child each"),
         slow("texts_missing", missing("(, 1 249 text)"), false, 0, "the same, 63 children each, an attribute missing"),
-        slow("loose_wide", of(loose, wide()), true, NODES, "1,024 elements, 99 groups of optional repeats, 63 children each"),
+        slow("loose_wide", of(loose, wide()), true, NODES, "1,024 elements, 100 optional repeats grouped, 63 children"),
         slow("loose_deep", of(loose, deep()), true, NODES, "the same, one child each"),
-        slow("groups_wide", of(&both, wide()), true, NODES, "1,024 elements, oneOrMore around each of 100 groups, 63 children each"),
+        slow("groups_wide", of(&both, wide()), true, NODES, "1,024 elements, oneOrMore around 100 groups, 63 children"),
         slow("groups_mixed", of(&both, mixed), true, 520, "520 elements against the same, texts between 31 children each"),
     ]
 }
@@ -234,10 +234,11 @@ fn texts() -> Vec<Slow> {
     let values = with(words, values, (0..16).flat_map(element).collect());
     let alike = (1..512u16).map(|k| [vec![b'a'; 30], k.to_be_bytes().to_vec()].concat()).collect();
     let spaces = with(spaces, "element * (| 1 252 value) start $0", one_text.clone());
+    let alike = with(alike, "element * text start $0", one_text);
     vec![
         slow("token_spaces", spaces, true, 1, "252 token values of 15,300 spaces and a letter, 508 other strings"),
-        slow("token_words", values, false, 0, "1,008 attributes of 8,101 bytes, 250 token values that differ in the last byte"),
-        slow("strings_alike", with(alike, "element * text start $0", one_text), true, 1, "511 strings that share 30 of 32 bytes"),
+        slow("token_words", values, false, 0, "1,008 attributes of 8,101 bytes, 250 values unlike in the last byte"),
+        slow("strings_alike", alike, true, 1, "511 strings that share 30 of 32 bytes"),
     ]
 }
 

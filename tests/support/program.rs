@@ -7,12 +7,13 @@ use std::sync::mpsc::channel;
 use std::thread;
 use std::time::Duration;
 
-const COMMAND: &str = "ulimit -s 8192; exec target/bin/validator 2>&1";
-pub const LIMIT: Duration = Duration::from_secs(2);
+pub const PROGRAM: &str = "target/bin/validator";
+const LIMIT: Duration = Duration::from_secs(2);
 
 fn start() -> Child {
     let mut command = Command::new("sh");
-    command.args(["-c", COMMAND]).stdin(Stdio::piped()).stdout(Stdio::piped());
+    let line = format!("ulimit -s 8192; exec {PROGRAM} 2>&1");
+    command.args(["-c", &line]).stdin(Stdio::piped()).stdout(Stdio::piped());
     command.spawn().expect("a shell")
 }
 

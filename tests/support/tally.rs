@@ -2,8 +2,8 @@
 
 use std::fmt::Debug;
 
-/// So many failures are printed, and so many characters of each value.
-const PRINTED: (u64, usize) = (20, 2_000);
+/// So many failures are printed, and so many characters of each value on either side of the first difference.
+const PRINTED: (u64, usize) = (20, 300);
 
 #[derive(Default)]
 pub struct Tally {
@@ -20,8 +20,11 @@ impl Tally {
         }
         self.failed += 1;
         if self.failed <= PRINTED.0 {
-            let short = |value: &T| format!("{value:?}").chars().take(PRINTED.1).collect::<String>();
-            println!("FAILED {what}\n    expected {}\n    got      {}", short(&expected), short(&got));
+            let [expected, got] = [expected, got].map(|value| format!("{value:?}").chars().collect::<Vec<char>>());
+            let equal = expected.iter().zip(&got).take_while(|(a, b)| a == b).count();
+            let near = |all: &[char]| all[equal.saturating_sub(PRINTED.1)..all.len().min(equal + PRINTED.1)].iter().collect();
+            let [expected, got]: [String; 2] = [near(&expected), near(&got)];
+            println!("FAILED {what}\n    expected {expected}\n    got      {got}");
         }
         false
     }
