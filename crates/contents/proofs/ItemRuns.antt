@@ -15,13 +15,11 @@ use Rattle.instance.specs.Nodes.{element, text, nodesOf, kindOf, aOf, isChild}
 use Rattle.instance.specs.NodeRule.{NodesRight}
 use Rattle.instance.specs.Width.{maxWidth, WidthFault}
 use Rattle.instance.specs.Elements.{isElement, childrenOf}
-use Rattle.instance.proofs.Elements.{child-later}
 use Rattle.instance.proofs.RowLists.{listed-row, few-children, child-kinds}
 use Rattle.sets.specs.Bits.{bit}
 use Rattle.rules.specs.Items.{Item, string}
 use Rattle.rules.specs.Items as item
 use Rattle.rules.specs.Job.{itemOf, lookups}
-use Rattle.rules.proofs.Booleans.{is-false}
 use Rattle.rules.proofs.Runs.{added, run, kept, run-add, run-list}
 use Rattle.marks.specs.Given.{itemAt}
 use Rattle.marks.specs.Tests.{Collects}
@@ -67,11 +65,8 @@ collected-contents {strings} {t} {rows} {items} {e} {n} {texts} {elements} right
   elements-at = λ j. es few .members j ∙ kinds element j (decLt j n);
 }
   where
-    none-before : (x : ℕ) → x ≤ e → isChild t e x ≡ false
-    none-before x l = is-false (isChild t e x) (λ b. let z = child-later right e x h b .0 in absurd (omega arith))
-
     held : Holds rows (childrenOf t e) n
-    held = c none-before
+    held = c strings right
 
     few : n ≤ maxWidth
     few = rw (held .count) (few-children h k narrow)
