@@ -1,16 +1,15 @@
 -- The children of an element as items at positions, and the runs over them.
 use Prim.Native.Nat.{ℕ, zero, suc, _+_, _-_, _≤_, _<_}
 use mathlib.Core.Path.{_≡_, refl, sym, _∙_, ap, ap₂}
-use mathlib.Core.Bool.{Bool, true, false, cond, _&&_, true≢false, false≢true}
+use mathlib.Core.Bool.{Bool, true, false, _&&_}
 use mathlib.Core.List.{List, [], _∷_, _++_, map, append-nil, List·Memᴰ, List·Memᴰ·head, List·Memᴰ·tail}
-use mathlib.Core.Logic.{_⊎_, inl, inr, _↔_}
+use mathlib.Core.Logic.{_⊎_, inl, inr}
 use native.Mathlib.Omega.{arith}
 use native.Mathlib.Decide.{decLt}
 use lib.Dec.{eqb, ltb}
 use lib.ListN.{length, getD, length-map, List·getD-map}
-use borrow.Author.Tests.{lt-ltb, le-ltb, eq-eqb, ne-eqb, eqb-true}
+use borrow.Author.Tests.{lt-ltb, le-ltb, eqb-true}
 use Rattle.tables.proofs.Numbers.{not-less}
-use Rattle.strings.specs.Strings.{textOf}
 use Rattle.instance.specs.Nodes.{element, text, nodesOf, kindOf, aOf, isChild}
 use Rattle.instance.specs.NodeRule.{NodesRight}
 use Rattle.instance.specs.Width.{maxWidth, WidthFault}
@@ -20,7 +19,7 @@ use Rattle.sets.specs.Bits.{bit}
 use Rattle.rules.specs.Items.{Item, string}
 use Rattle.rules.specs.Items as item
 use Rattle.rules.specs.Job.{itemOf, lookups}
-use Rattle.rules.proofs.Runs.{added, run, kept, run-add, run-list}
+use Rattle.rules.proofs.Runs.{run, kept, run-add, run-list}
 use Rattle.marks.specs.Given.{itemAt}
 use Rattle.marks.specs.Tests.{Collects}
 use Rattle.contents.specs.Contents.{Holds, Children, itemWord, ofKind, Itemized, Contents}

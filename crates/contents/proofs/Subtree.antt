@@ -1,12 +1,11 @@
 -- The rows of an element's descendants stand together right after it: past the first row whose parent comes before the element it has no child.
 use Prim.Native.Nat.{ℕ, zero, suc, _+_, _-_, _≤_, _<_}
 use mathlib.Core.Path.{_≡_, refl}
-use mathlib.Core.Bool.{Bool, true, false, cond}
+use mathlib.Core.Bool.{Bool, true, false}
 use mathlib.Core.List.{List, append-nil}
-use mathlib.Core.Logic.{_≢_}
 use native.Mathlib.Omega.{arith}
 use lib.Dec.{eqb}
-use Rattle.instance.specs.Nodes.{element, none, nodesOf, kindOf, parentOf, isChild}
+use Rattle.instance.specs.Nodes.{element, nodesOf, kindOf, parentOf, isChild}
 use Rattle.instance.specs.NodeRule.{nearest, Up, itself, above, NodesRight}
 use Rattle.instance.specs.Elements.{rowsWhere}
 use Rattle.instance.proofs.Ancestors.{up-before, up-parent}
