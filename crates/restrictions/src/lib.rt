@@ -380,7 +380,7 @@ fn check_interleaves(schema: &[u32]) -> Checked
 pub fn check_schema(strings: usize, schema: &[u32]) -> Verdict
     ensures { λ r. ⌜ SchemaVerdict strings (now (schema .entry)) r ⌝ }
 {
-    let rows = schema::check_rows(strings, schema);
+    let rows = rows::check_rows(strings, schema);
     let Checked::Fine = rows else {
         return tables::refusal(2, rows);
     };

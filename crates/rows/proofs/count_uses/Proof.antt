@@ -4,12 +4,12 @@ use Prim.Native.Nat.{ℕ, _-_, _≤_}
 use native.Mathlib.Omega.{arith}
 use lib.ListN.{length, length-replicate}
 use borrow.Author.Needs.{needs}
-use Rattle.schema.proofs.Uses.{counts-none, counts-low, added-low, counts-more}
-use Rattle.schema.specs.Counts.{Counts}
+use Rattle.rows.proofs.Uses.{counts-none, counts-low, added-low, counts-more}
+use Rattle.rows.specs.Counts.{Counts}
 use Rattle.schema.specs.RowRule.{maxRows}
 use Rattle.schema.specs.Rows.{rowsOf}
-use Rattle.schema.proofs.count_uses.Statement.{statement}
-use Rattle.schema.proofs.count_uses.Tie as tie
+use Rattle.rows.proofs.count_uses.Statement.{statement}
+use Rattle.rows.proofs.count_uses.Tie as tie
 
 abbrev Inv-loop : tie.InvT-loop
 Inv-loop schema counts₀ rows p₀ counts p = (p ≤ rowsOf schema) × Counts schema counts p

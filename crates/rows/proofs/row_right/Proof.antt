@@ -3,9 +3,9 @@ use mathlib.Core.Path.{_∙_}
 use denote.Ref.{now}
 use borrow.Author.Needs.{needs}
 use borrow.Author.Tests.{not-true, not-false}
-use Rattle.schema.proofs.RowLaws.{tested-a, tested-b}
-use Rattle.schema.proofs.row_right.Statement.{statement}
-use Rattle.schema.proofs.row_right.Tie as tie
+use Rattle.rows.proofs.Tests.{tested-a, tested-b}
+use Rattle.rows.proofs.row_right.Statement.{statement}
+use Rattle.rows.proofs.row_right.Tie as tie
 
 kind-requires : tie.Need-kind-requires
 kind-requires c κs = search needs

@@ -8,11 +8,11 @@ use borrow.Author.Needs.{needs}
 use borrow.Author.Tests.{not-true, not-false}
 use Rattle.tables.proofs.Answers.{finds-none}
 use Rattle.tables.specs.Answers.{Clear}
-use Rattle.schema.proofs.RowLaws.{row-tested}
+use Rattle.rows.proofs.Tests.{row-tested}
 use Rattle.schema.specs.RowRule.{WrongRow}
 use Rattle.schema.specs.Rows.{rowsOf}
-use Rattle.schema.proofs.first_wrong_row.Statement.{statement}
-use Rattle.schema.proofs.first_wrong_row.Tie as tie
+use Rattle.rows.proofs.first_wrong_row.Statement.{statement}
+use Rattle.rows.proofs.first_wrong_row.Tie as tie
 
 abbrev Inv-loop : tie.InvT-loop
 Inv-loop strings schema counts rows r₀ r = (r ≤ rowsOf schema) × Clear (WrongRow strings schema) r

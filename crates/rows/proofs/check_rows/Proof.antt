@@ -2,10 +2,11 @@
 use mathlib.Core.Path.{refl}
 use borrow.Author.Needs.{needs}
 use Rattle.tables.proofs.Answers.{found-none, found-first, finds-same}
-use Rattle.schema.proofs.RowLaws.{few-rows, only-rows, first-bad-size}
+use Rattle.schema.proofs.RowLaws.{few-rows}
+use Rattle.rows.proofs.Tests.{only-rows, first-bad-size}
 use Rattle.schema.specs.RowRule.{bad-row}
-use Rattle.schema.proofs.check_rows.Statement.{statement}
-use Rattle.schema.proofs.check_rows.Tie as tie
+use Rattle.rows.proofs.check_rows.Statement.{statement}
+use Rattle.rows.proofs.check_rows.Tie as tie
 
 check-size-requires : tie.Need-check-size-requires
 check-size-requires c κs = search needs

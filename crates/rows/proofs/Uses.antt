@@ -12,9 +12,9 @@ use lib.Seq.{getD-set-same, getD-set-other}
 use borrow.Author.Tests.{eq-eqb, ne-eqb}
 use Rattle.tables.specs.Outputs.{zeros}
 use Rattle.tables.proofs.Fill.{getD-zeros}
 use Rattle.schema.specs.Rows.{childA, childB}
 use Rattle.schema.specs.RowRule.{maxRows, isRow, usesBelow}
-use Rattle.schema.specs.Counts.{Counts, Added}
+use Rattle.rows.specs.Counts.{Counts, Added}
 
 is-row-low : (r x : ℕ) → isRow r x ≤ 1
 is-row-low r x = go (eqb x r) refl

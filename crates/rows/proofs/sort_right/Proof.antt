@@ -1,8 +1,8 @@
 -- Each sort by its case.
 use borrow.Author.Needs.{needs}
 use borrow.Author.Tests.{eq-eqb, ne-eqb}
-use Rattle.schema.proofs.sort_right.Statement.{statement}
-use Rattle.schema.proofs.sort_right.Tie as tie
+use Rattle.rows.proofs.sort_right.Statement.{statement}
+use Rattle.rows.proofs.sort_right.Tie as tie
 
 enum-told : tie.Need-enum-told
 enum-told c = search needs

@@ -1,9 +1,9 @@
 -- The one word that changes is that of the row used.
 use native.Mathlib.Omega.{arith}
 use borrow.Author.Needs.{needs}
-use Rattle.schema.proofs.Uses.{added-here, added-nowhere}
-use Rattle.schema.proofs.add_use.Statement.{statement}
-use Rattle.schema.proofs.add_use.Tie as tie
+use Rattle.rows.proofs.Uses.{added-here, added-nowhere}
+use Rattle.rows.proofs.add_use.Statement.{statement}
+use Rattle.rows.proofs.add_use.Tie as tie
 
 mul-counts : tie.Need-mul-counts
 mul-counts c = search needs
