@@ -50,7 +50,7 @@ fn count_uses(schema: &[u32], counts: &mut [u32])
 }
 
 // The number of words and rows.
-fn check_size(schema: &[u32]) -> Checked
+pub fn check_size(schema: &[u32]) -> Checked
     ensures { λ r. ⌜ Finds (SizeFault (now (schema .entry))) r ⌝ }
 {
     let rows = schema.len() / 3;
