@@ -144,14 +144,14 @@ pub extern "C" fn farshavan_least_common_name(
 pub extern "C" fn farshavan_check_nodes(strings: usize, instance: &[u32]) -> u64
     ensures { λ r. ⌜ PackedCheck 9 (NodeFault strings (now (instance .entry))) r ⌝ }
 {
-    pack_verdict(tables::refusal(9, instance::check_nodes(strings, instance)))
+    pack_verdict(tables::refusal(9, nodes::check_nodes(strings, instance)))
 }
 
 #[no_mangle]
 pub extern "C" fn farshavan_check_width(instance: &[u32]) -> u64
     ensures { λ r. ⌜ PackedWidth (now (instance .entry)) r ⌝ }
 {
-    pack_verdict(tables::refusal(10, instance::check_width(instance)))
+    pack_verdict(tables::refusal(10, width::check_width(instance)))
 }
 
 fn pack_written(answer: JobWritten) -> u64

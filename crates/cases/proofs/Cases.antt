@@ -10,7 +10,7 @@ use Rattle.classes.specs.Membership as class
 use Rattle.instance.specs.Elements.{rowsWhere}
 use Rattle.instance.specs.NodeRule.{fieldsRight}
 use Rattle.instance.specs.Width.{howMany}
-use Rattle.restrictions.specs.TypeTable.{typeBy, clashBy}
+use Rattle.sequences.specs.TypeTable.{typeBy, clashBy}
 use Rattle.rules.proofs.Runs.{run}
 use Rattle.cases.specs.Meaning.{AllHold}
 use Rattle.cases.specs.Table.{table}

@@ -14,8 +14,8 @@ use Rattle.schema.specs.RowRule.{RowsRight}
 use Rattle.schema.proofs.RowLaws.{in-table, right-size}
 use Rattle.classes.specs.Least.{Common}
 use Rattle.places.specs.Paths.{isPair}
-use Rattle.restrictions.specs.Attributes.{isWildcard, Infinite, is-wildcard, has-wildcard, AttributeFault, duplicate, not-repeated}
-use Rattle.restrictions.specs.Interleaves.{classReferred, InterleaveFault, same-element, text-twice}
+use Rattle.occurrences.specs.Attributes.{isWildcard, Infinite, is-wildcard, has-wildcard, AttributeFault, duplicate, not-repeated}
+use Rattle.occurrences.specs.Interleaves.{classReferred, InterleaveFault, same-element, text-twice}
 use Rattle.rules.proofs.Booleans.{or-either, or-left, or-right, and-left, and-right, and-both}
 use Rattle.cases.proofs.Tests.{someBelow, below-some, no-of, guarded, unguarded}
 use Rattle.cases.proofs.DescentTests.{insideTest, occurs-test, test-occurs, belowTest, below-test, test-below}

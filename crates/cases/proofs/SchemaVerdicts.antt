@@ -17,11 +17,11 @@ use Rattle.schema.proofs.RowLaws.{right-size}
 use Rattle.places.specs.Places.{PlaceFault}
 use Rattle.places.specs.Names.{NameFault}
 use Rattle.places.specs.Paths.{PathFault}
-use Rattle.restrictions.specs.Content.{SequenceFault}
-use Rattle.restrictions.specs.Attributes.{AttributeFault}
-use Rattle.restrictions.specs.Interleaves.{InterleaveFault}
-use Rattle.restrictions.proofs.TypeTables.{sequence-row}
-use Rattle.restrictions.proofs.Clashes.{attribute-row, interleave-row}
+use Rattle.sequences.specs.Content.{SequenceFault}
+use Rattle.occurrences.specs.Attributes.{AttributeFault}
+use Rattle.occurrences.specs.Interleaves.{InterleaveFault}
+use Rattle.sequences.proofs.TypeTables.{sequence-row}
+use Rattle.occurrences.proofs.Clashes.{attribute-row, interleave-row}
 use Rattle.relaxng.specs.Promises.{SchemaRefusal}
 use Rattle.rules.proofs.Booleans.{and-left, and-right}
 use Rattle.cases.proofs.Tests.{everyBelow, every-below}

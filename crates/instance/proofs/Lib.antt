@@ -1,5 +1,4 @@
 pub mod Ancestors
-pub mod Counting
 pub mod Elements
 pub mod Order
 pub mod RowLists

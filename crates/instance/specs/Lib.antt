@@ -1,4 +1,3 @@
-pub mod Counts
 pub mod Elements
 pub mod NodeRule
 pub mod Nodes

@@ -1,12 +1,2 @@
 pub mod Answer
-pub mod Digits
-pub mod Fields
-pub mod Keys
 pub mod Laid
-pub mod LastLine
-pub mod Pairs
-pub mod Passing
-pub mod Progress
-pub mod Split
-pub mod Stored
-pub mod Whole

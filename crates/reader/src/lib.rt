@@ -1,445 +1,16 @@
 // The reader of job files.
+use lines::Held;
 ghost use mathlib.Core.Path.{_≡_};
-ghost use Prim.Native.Nat.{_+_, _≤_, _<_};
 ghost use mathlib.Core.Bool.{_&&_};
 ghost use lib.Dec.{leb};
-ghost use lib.ListN.{length, drop, set};
-ghost use Rattle.strings.specs.Strings.{maxStrings, maxBytes};
-ghost use Rattle.instance.specs.NodeRule.{maxNodes};
-ghost use Rattle.jobs.specs.Numbers.{noLeadingZero, numberOf, wordOf, hexValue, hexBytes};
-ghost use Rattle.jobs.specs.Lines.{linesOf, fieldsOf};
-ghost use Rattle.jobs.specs.Reading.{readJob, noTables, maxFile, count, wordsOf, rowOf};
+ghost use Rattle.jobs.specs.Reading.{readJob, noTables};
 ghost use Rattle.reader.specs.Promises.{readAnswer, roomOf, given, Holds};
-ghost use Rattle.reader.specs.Parts.{asNumber, digitsOf, stringAfter, LineEnd, KeyEnd, FieldEnd, Stores};
-ghost use Rattle.reader.specs.Steps.{LiteralLine, CountLine, StringSection, readStrings, RowSection, readRows, readTable, EndLine, stoppedBy, FrontRead, BackRead, maxFront, TablesHeld, maxWords};
+ghost use Rattle.reader.specs.Steps.{Small, answerTo};
 
 // What a job file reads as: how many bytes, strings, schema rows and instance rows, or the refusal with its code and place.
 pub enum JobRead {
     Read(u32, u32, u32, u32),
     NotRead(u32, u32),
-}
-
-// The number that a text is, if it is one.
-enum Number {
-    Value(u32),
-    NoNumber,
-}
-
-// A position, if there is one.
-enum Found {
-    At(usize),
-    Nothing,
-}
-
-// A count and the position after its line, if there is one.
-enum Counted {
-    Count(u32, usize),
-    NoCount,
-}
-
-// The lines of a table: the position after them, the number of the next line and the number of words, or the first wrong line.
-enum Section {
-    Read(usize, u32, usize),
-    Wrong(u32),
-}
-
-// The end of a file, or the first wrong line.
-enum Ending {
-    Ended,
-    Wrong(u32),
-}
-
-// The first line and the strings: the position after them, the number of the next line, and the numbers of bytes and of strings; or the first wrong line.
-enum Front {
-    Read(usize, u32, usize, usize),
-    Wrong(u32),
-}
-
-// The tables of rows and the last line: the numbers of words of the two tables, or the first wrong line.
-enum Back {
-    Read(usize, usize),
-    Wrong(u32),
-}
-
-// The numbers of words of the four tables, or the first wrong line.
-enum Held {
-    Tables(usize, usize, usize, usize),
-    Wrong(u32),
-}
-
-// The longest file.
-pub const MAX_FILE: usize = 65536;
-
-const LARGEST_NUMBER: u64 = 4294967294;
-
-const LARGEST_WORD: u32 = 4294967295;
-
-// A byte stored in an output, where it fits.
-fn put_u8(out: &mut [u8], i: usize, v: u8)
-    ensures { λ _. ⌜ now (out .exit) ≡ set (now (out .entry)) i v ⌝ }
-{
-    if i < out.len() {
-        out[i] = v;
-        return;
-    }
-}
-
-// A word stored in an output, where it fits.
-fn put_u32(out: &mut [u32], i: usize, v: u32)
-    ensures { λ _. ⌜ now (out .exit) ≡ set (now (out .entry)) i v ⌝ }
-{
-    if i < out.len() {
-        out[i] = v;
-        return;
-    }
-}
-
-// Where the line ends that starts at a position.
-fn line_end(file: &[u8], at: usize) -> Found
-    ensures { λ r. ⌜ LineEnd (now (file .entry)) at r ⌝ }
-{
-    let mut i = at;
-    while i < file.len() {
-        if file[i] == b'\n' {
-            return Found::At(i);
-        }
-        i += 1;
-    }
-    Found::Nothing
-}
-
-// Where what follows a key at the front of a line starts.
-fn key_end(line: &[u8], key: &[u8]) -> Found
-    ensures { λ r. ⌜ KeyEnd (now (key .entry)) (now (line .entry)) r ⌝ }
-{
-    let mut i = 0;
-    while i < key.len() {
-        if line.len() <= i {
-            return Found::Nothing;
-        }
-        if line[i] != key[i] {
-            return Found::Nothing;
-        }
-        i += 1;
-    }
-    Found::At(i)
-}
-
-// Where the field ends that starts at a position.
-fn field_end(text: &[u8], from: usize) -> usize
-    requires { ⌜ from ≤ length (now text) ⌝ }
-    ensures { λ r. ⌜ FieldEnd (now (text .entry)) from r ⌝ }
-{
-    let mut i = from;
-    while i < text.len() {
-        if text[i] == b',' {
-            return i;
-        }
-        i += 1;
-    }
-    i
-}
-
-// Whether there is a digit, and the first of several is not 0.
-fn no_leading_zero(text: &[u8]) -> bool
-    ensures { λ r. ⌜ r ≡ noLeadingZero (now (text .entry)) ⌝ }
-{
-    if text.len() == 0 {
-        return false;
-    }
-    if text.len() == 1 {
-        return true;
-    }
-    text[0] != b'0'
-}
-
-// The number that digits make, up to the largest.
-fn read_digits(text: &[u8]) -> Number
-    ensures { λ r. ⌜ r ≡ asNumber (digitsOf 0 (now (text .entry))) ⌝ }
-{
-    let mut value: u64 = 0;
-    let mut i = 0;
-    while i < text.len() {
-        let b = text[i];
-        if b < b'0' {
-            return Number::NoNumber;
-        }
-        if b'9' < b {
-            return Number::NoNumber;
-        }
-        value = value * 10 + (b - b'0') as u64;
-        if LARGEST_NUMBER < value {
-            return Number::NoNumber;
-        }
-        i += 1;
-    }
-    Number::Value(value as u32)
-}
-
-fn read_number(text: &[u8]) -> Number
-    ensures { λ r. ⌜ r ≡ asNumber (numberOf (now (text .entry))) ⌝ }
-{
-    if no_leading_zero(text) {
-        return read_digits(text);
-    }
-    Number::NoNumber
-}
-
-// A number, or `-` for the largest word.
-fn read_word(text: &[u8]) -> Number
-    ensures { λ r. ⌜ r ≡ asNumber (wordOf (now (text .entry))) ⌝ }
-{
-    if text.len() != 1 {
-        return read_number(text);
-    }
-    if text[0] == b'-' {
-        return Number::Value(LARGEST_WORD);
-    }
-    read_number(text)
-}
-
-// The value of a lower-case hexadecimal digit.
-fn hex_digit(c: u8) -> Number
-    ensures { λ r. ⌜ r ≡ asNumber (hexValue c) ⌝ }
-{
-    if c < b'0' {
-        return Number::NoNumber;
-    }
-    if c <= b'9' {
-        return Number::Value((c - 48) as u32);
-    }
-    if c < b'a' {
-        return Number::NoNumber;
-    }
-    if b'f' < c {
-        return Number::NoNumber;
-    }
-    Number::Value((c - 87) as u32)
-}
-
-// The bytes that pairs of hexadecimal digits are, stored in an output from a position on; the position after them.
-fn hex_bytes(text: &[u8], out: &mut [u8], from: usize) -> Found
-    requires { ⌜ from ≤ maxBytes ⌝ }
-    ensures { λ r. ⌜ Stores (hexBytes (now (text .entry))) (now (out .entry)) from (now (out .exit)) r ⌝ }
-{
-    let mut to = from;
-    let mut i = 0;
-    while i < text.len() {
-        if text.len() - i < 2 {
-            return Found::Nothing;
-        }
-        let Number::Value(high) = hex_digit(text[i]) else {
-            return Found::Nothing;
-        };
-        let Number::Value(low) = hex_digit(text[i + 1]) else {
-            return Found::Nothing;
-        };
-        put_u8(out, to, (high * 16 + low) as u8);
-        to += 1;
-        i += 2;
-    }
-    Found::At(to)
-}
-
-// The words of exactly so many fields, stored in an output from a position on; the position after them.
-fn words(text: &[u8], width: usize, out: &mut [u32], from: usize) -> Found
-    requires { ⌜ (length (now text) ≤ maxFile) × (width ≤ 5) × (from ≤ maxWords) ⌝ }
-    ensures { λ r. ⌜ Stores (wordsOf width (fieldsOf (now (text .entry)))) (now (out .entry)) from (now (out .exit)) r ⌝ }
-{
-    let mut to = from;
-    let mut left = width;
-    let mut start = 0;
-    while 0 < left {
-        if text.len() < start {
-            return Found::Nothing;
-        }
-        let end = field_end(text, start);
-        let Number::Value(w) = read_word(&text[start..end]) else {
-            return Found::Nothing;
-        };
-        put_u32(out, to, w);
-        to += 1;
-        left -= 1;
-        start = end + 1;
-    }
-    if start <= text.len() {
-        return Found::Nothing;
-    }
-    Found::At(to)
-}
-
-// The bytes of a string line, stored after those of the strings before it.
-fn string_line(line: &[u8], bytes: &mut [u8], from: usize) -> Found
-    requires { ⌜ from ≤ maxBytes ⌝ }
-    ensures { λ r. ⌜ Stores (stringAfter from (now (line .entry))) (now (bytes .entry)) from (now (bytes .exit)) r ⌝ }
-{
-    let Found::At(p) = key_end(line, b"s=") else {
-        return Found::Nothing;
-    };
-    let Found::At(to) = hex_bytes(&line[p..], bytes, from) else {
-        return Found::Nothing;
-    };
-    if strings::MAX_BYTES < to {
-        return Found::Nothing;
-    }
-    Found::At(to)
-}
-
-// The words of a row line, stored after those of the rows before it.
-fn row_line(line: &[u8], key: &[u8], width: usize, out: &mut [u32], from: usize) -> Found
-    requires { ⌜ (length (now line) ≤ maxFile) × (width ≤ 5) × (from ≤ maxWords) ⌝ }
-    ensures { λ r. ⌜ Stores (rowOf (now (key .entry)) width (now (line .entry))) (now (out .entry)) from (now (out .exit)) r ⌝ }
-{
-    let Found::At(p) = key_end(line, key) else {
-        return Found::Nothing;
-    };
-    words(&line[p..], width, out, from)
-}
-
-// The count of a line, up to a limit.
-fn count_of(line: &[u8], key: &[u8], limit: usize) -> Number
-    ensures { λ r. ⌜ r ≡ asNumber (count (now (key .entry)) limit (now (line .entry))) ⌝ }
-{
-    let Found::At(p) = key_end(line, key) else {
-        return Number::NoNumber;
-    };
-    let Number::Value(n) = read_number(&line[p..]) else {
-        return Number::NoNumber;
-    };
-    if limit < n as usize {
-        return Number::NoNumber;
-    }
-    Number::Value(n)
-}
-
-// Where the line ends that is nothing but a text.
-fn literal_line(file: &[u8], at: usize, text: &[u8]) -> Found
-    ensures { λ r. ⌜ LiteralLine (now (text .entry)) (now (file .entry)) at r ⌝ }
-{
-    let Found::At(e) = line_end(file, at) else {
-        return Found::Nothing;
-    };
-    if tables::same_bytes(&file[at..e], text) {
-        return Found::At(e);
-    }
-    Found::Nothing
-}
-
-// A count line: the count, and where the next line starts.
-fn count_line(file: &[u8], at: usize, key: &[u8], limit: usize) -> Counted
-    ensures { λ r. ⌜ CountLine (now (key .entry)) limit (now (file .entry)) at r ⌝ }
-{
-    let Found::At(e) = line_end(file, at) else {
-        return Counted::NoCount;
-    };
-    let Number::Value(n) = count_of(&file[at..e], key, limit) else {
-        return Counted::NoCount;
-    };
-    Counted::Count(n, e + 1)
-}
-
-// So many string lines, into an output for the bytes and one for the ends.
-fn read_strings(
-    file: &[u8],
-    at: usize,
-    line: u32,
-    count: u32,
-    bytes: &mut [u8],
-    ends: &mut [u32],
-) -> Section
-    requires { ⌜ (line ≤ maxFile) × (count ≤ maxStrings) ⌝ }
-    ensures { λ r. ⌜ StringSection (readStrings count line (linesOf (drop at (now (file .entry))))) (now (file .entry)) (now (bytes .entry)) (now (ends .entry)) (now (bytes .exit)) (now (ends .exit)) count (line + count) r ⌝ }
-{
-    let mut start = at;
-    let mut used = 0;
-    let mut k = 0;
-    while k < count {
-        let Found::At(e) = line_end(file, start) else {
-            return Section::Wrong(line + k);
-        };
-        let Found::At(to) = string_line(&file[start..e], bytes, used) else {
-            return Section::Wrong(line + k);
-        };
-        put_u32(ends, k as usize, to as u32);
-        start = e + 1;
-        used = to;
-        k += 1;
-    }
-    Section::Read(start, line + k, used)
-}
-
-// So many row lines, into an output for their words.
-fn read_rows(
-    file: &[u8],
-    at: usize,
-    line: u32,
-    count: u32,
-    key: &[u8],
-    width: usize,
-    out: &mut [u32],
-) -> Section
-    requires { ⌜ (length (now file) ≤ maxFile) × (line ≤ maxFile) × (count ≤ maxNodes) × (width ≤ 5) ⌝ }
-    ensures { λ r. ⌜ RowSection (now (key .entry)) width (readRows count line (linesOf (drop at (now (file .entry))))) (now (file .entry)) (now (out .entry)) (now (out .exit)) (line + count) r ⌝ }
-{
-    let mut start = at;
-    let mut used = 0;
-    let mut k = 0;
-    while k < count {
-        let Found::At(e) = line_end(file, start) else {
-            return Section::Wrong(line + k);
-        };
-        let Found::At(to) = row_line(&file[start..e], key, width, out, used) else {
-            return Section::Wrong(line + k);
-        };
-        start = e + 1;
-        used = to;
-        k += 1;
-    }
-    Section::Read(start, line + k, used)
-}
-
-// A table: its count line and its rows.
-fn read_table(
-    file: &[u8],
-    at: usize,
-    line: u32,
-    counted: &[u8],
-    limit: usize,
-    key: &[u8],
-    width: usize,
-    out: &mut [u32],
-) -> Section
-    requires { ⌜ (length (now file) ≤ maxFile) × (line < maxFile) × (limit ≤ maxNodes) × (width ≤ 5) ⌝ }
-    ensures { λ r. ⌜ RowSection (now (key .entry)) width (readTable (now (counted .entry)) limit line (linesOf (drop at (now (file .entry))))) (now (file .entry)) (now (out .entry)) (now (out .exit)) (line + 1 + limit) r ⌝ }
-{
-    let Counted::Count(rows, next) = count_line(file, at, counted, limit) else {
-        return Section::Wrong(line);
-    };
-    read_rows(file, next, line + 1, rows, key, width, out)
-}
-
-// The last line, and that nothing comes after it.
-fn end_line(file: &[u8], at: usize, line: u32) -> Ending
-    requires { ⌜ line ≤ maxFile ⌝ }
-    ensures { λ r. ⌜ EndLine (now (file .entry)) line at r ⌝ }
-{
-    let Found::At(e) = literal_line(file, at, b"end=1") else {
-        return Ending::Wrong(line);
-    };
-    if e + 1 < file.len() {
-        return Ending::Wrong(line + 1);
-    }
-    Ending::Ended
-}
-
-// The answer where a section is wrong.
-fn stopped(section: Section) -> Back
-    ensures { λ r. ⌜ r ≡ stoppedBy section ⌝ }
-{
-    match section {
-        Section::Read(_, _, _) => Back::Wrong(0),
-        Section::Wrong(line) => Back::Wrong(line),
-    }
 }
 
 // All four outputs zero.
@@ -450,80 +21,6 @@ fn zero_outputs(bytes: &mut [u8], ends: &mut [u32], schema: &mut [u32], instance
     tables::zero_u32(ends);
     tables::zero_u32(schema);
     tables::zero_u32(instance);
-}
-
-// The first line and the strings, into an output for the bytes and one for the ends.
-fn read_front(file: &[u8], bytes: &mut [u8], ends: &mut [u32]) -> Front
-    ensures { λ r. ⌜ FrontRead (now (file .entry)) (now (bytes .entry)) (now (ends .entry)) (now (bytes .exit)) (now (ends .exit)) r ⌝ }
-{
-    let Found::At(e) = literal_line(file, 0, b"rng=1") else {
-        return Front::Wrong(1);
-    };
-    let Counted::Count(count, at) = count_line(file, e + 1, b"strings=", strings::MAX_STRINGS)
-    else {
-        return Front::Wrong(2);
-    };
-    match read_strings(file, at, 3, count, bytes, ends) {
-        Section::Wrong(line) => Front::Wrong(line),
-        Section::Read(next, line, size) => Front::Read(next, line, size, count as usize),
-    }
-}
-
-// The two tables of rows and the last line, from a position and a line on.
-fn read_back(file: &[u8], at: usize, line: u32, schema: &mut [u32], instance: &mut [u32]) -> Back
-    requires { ⌜ (length (now file) ≤ maxFile) × (line ≤ maxFront) ⌝ }
-    ensures { λ r. ⌜ BackRead (now (file .entry)) line (linesOf (drop at (now (file .entry)))) (now (schema .entry)) (now (instance .entry)) (now (schema .exit)) (now (instance .exit)) r ⌝ }
-{
-    let rows = read_table(
-        file,
-        at,
-        line,
-        b"schema=",
-        schema::MAX_ROWS,
-        b"row=",
-        3,
-        schema,
-    );
-    let Section::Read(at_instance, line_instance, row_words) = rows else {
-        return stopped(rows);
-    };
-    let nodes = read_table(
-        file,
-        at_instance,
-        line_instance,
-        b"instance=",
-        instance::MAX_NODES,
-        b"node=",
-        5,
-        instance,
-    );
-    let Section::Read(at_end, last_line, node_words) = nodes else {
-        return stopped(nodes);
-    };
-    match end_line(file, at_end, last_line) {
-        Ending::Wrong(last) => Back::Wrong(last),
-        Ending::Ended => Back::Read(row_words, node_words),
-    }
-}
-
-// The lines of a file, into outputs that are zeros.
-fn read_tables(
-    file: &[u8],
-    bytes: &mut [u8],
-    ends: &mut [u32],
-    schema: &mut [u32],
-    instance: &mut [u32],
-) -> Held
-    requires { ⌜ (length (now file) ≤ maxFile) × Holds noTables (roomOf (now bytes) (now ends) (now schema) (now instance)) (now bytes) (now ends) (now schema) (now instance) ⌝ }
-    ensures { λ r. ⌜ TablesHeld (now (file .entry)) (roomOf (now (bytes .entry)) (now (ends .entry)) (now (schema .entry)) (now (instance .entry))) (now (bytes .exit)) (now (ends .exit)) (now (schema .exit)) (now (instance .exit)) r ⌝ }
-{
-    match read_front(file, bytes, ends) {
-        Front::Wrong(line) => Held::Wrong(line),
-        Front::Read(at, next, b, s) => match read_back(file, at, next, schema, instance) {
-            Back::Wrong(line) => Held::Wrong(line),
-            Back::Read(r, i) => Held::Tables(b, s, r, i),
-        },
-    }
 }
 
 // Whether four tables fit in four outputs.
@@ -554,6 +51,22 @@ fn fit(
     true
 }
 
+// The answer, by the lengths of the tables of a file or its first wrong line, where four outputs have so many words.
+fn judge(held: Held, bytes: usize, ends: usize, schema: usize, instance: usize) -> JobRead
+    requires { ⌜ Small held ⌝ }
+    ensures { λ said. ⌜ said ≡ answerTo held bytes ends schema instance ⌝ }
+{
+    match held {
+        Held::Wrong(line) => JobRead::NotRead(13, line),
+        Held::Tables(b, s, r, i) => {
+            if fit(b, s, r, i, bytes, ends, schema, instance) {
+                return JobRead::Read(b as u32, s as u32, (r / 3) as u32, (i / 5) as u32);
+            }
+            JobRead::NotRead(12, 0)
+        }
+    }
+}
+
 // A job file into four lent tables: codes 13 and 12.
 pub fn read_job(
     file: &[u8],
@@ -566,29 +79,11 @@ pub fn read_job(
     ensures outputs { λ _. ⌜ Holds (given (readJob (now (file .entry))) (roomOf (now (bytes .entry)) (now (ends .entry)) (now (schema .entry)) (now (instance .entry)))) (roomOf (now (bytes .entry)) (now (ends .entry)) (now (schema .entry)) (now (instance .entry))) (now (bytes .exit)) (now (ends .exit)) (now (schema .exit)) (now (instance .exit)) ⌝ }
 {
     zero_outputs(bytes, ends, schema, instance);
-    if MAX_FILE < file.len() {
-        return JobRead::NotRead(13, 0);
-    }
-    match read_tables(file, bytes, ends, schema, instance) {
-        Held::Wrong(line) => {
-            zero_outputs(bytes, ends, schema, instance);
-            JobRead::NotRead(13, line)
-        }
-        Held::Tables(b, s, r, i) => {
-            if fit(
-                b,
-                s,
-                r,
-                i,
-                bytes.len(),
-                ends.len(),
-                schema.len(),
-                instance.len(),
-            ) {
-                return JobRead::Read(b as u32, s as u32, (r / 3) as u32, (i / 5) as u32);
-            }
-            zero_outputs(bytes, ends, schema, instance);
-            JobRead::NotRead(12, 0)
-        }
-    }
+    let held = lines::read_tables(file, bytes, ends, schema, instance);
+    let said = judge(held, bytes.len(), ends.len(), schema.len(), instance.len());
+    let JobRead::NotRead(code, place) = said else {
+        return said;
+    };
+    zero_outputs(bytes, ends, schema, instance);
+    JobRead::NotRead(code, place)
 }

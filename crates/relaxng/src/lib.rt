@@ -135,11 +135,11 @@ fn instance_verdict(bytes: &[u8], ends: &[u32], schema: &[u32], instance: &[u32]
     let Verdict::Passed = passed else {
         return passed;
     };
-    let nodes = instance::check_nodes(ends.len(), instance);
+    let nodes = nodes::check_nodes(ends.len(), instance);
     let Checked::Fine = nodes else {
         return tables::refusal(9, nodes);
     };
-    tables::refusal(10, instance::check_width(instance))
+    tables::refusal(10, width::check_width(instance))
 }
 
 // The refusal of a verdict, as an answer on an instance; NotValid where nothing is refused.

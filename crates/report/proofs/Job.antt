@@ -22,7 +22,7 @@ use Rattle.relaxng.specs.Answers.{matchesVerdict, pairCount}
 use Rattle.tables.specs.declared.Verdict.the-variants.{Passed}
 use Rattle.relaxng.specs.Matching.{ListsMatches, Matched}
 use Rattle.relaxng.specs.declared.Matches.{Matches}
-use Rattle.writer.specs.Promises.{TextIn}
+use Rattle.texts.specs.Writing.{TextIn}
 use Rattle.report.specs.Report.{listRoom, answerText, Reports, not-read, answered, Reported, Answered}
 
 -- the tables that the program lends

@@ -6,7 +6,7 @@ use mathlib.Core.List.{List}
 use lib.ListN.{take}
 use Rattle.jobs.specs.Reading.{Tables, read, wrong, readJob}
 use Rattle.jobs.specs.Reported.{matchText, refusalText}
-use Rattle.writer.specs.Promises.{TextIn}
+use Rattle.texts.specs.Writing.{TextIn}
 use Rattle.relaxng.specs.Matching.{ListsMatches}
 use Rattle.relaxng.specs.declared.Matches.{Matches}
 use Rattle.relaxng.specs.declared.Matches.the-variants.{Valid, NotValid, NotMatched}

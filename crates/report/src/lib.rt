@@ -4,7 +4,7 @@ use relaxng::Matches;
 ghost use Prim.Native.Nat.{_*_, _≤_};
 ghost use lib.ListN.{length, take};
 ghost use Rattle.jobs.specs.Reported.{matchText};
-ghost use Rattle.writer.specs.Promises.{TextIn};
+ghost use Rattle.texts.specs.Writing.{TextIn};
 ghost use Rattle.report.specs.Report.{listRoom, Reported, Answered};
 
 // The text of a list of so many pairs.
@@ -13,7 +13,7 @@ fn write_pairs(valid: bool, list: &[u32], pairs: u32, out: &mut [u8]) -> u32
     ensures { λ n. ⌜ TextIn (matchText valid (take (pairs * 2) (now (list .entry)))) (length (now (out .entry))) (now (out .exit)) n ⌝ }
 {
     let words = pairs as usize * 2;
-    writer::write_matches(valid, &list[..words], out)
+    texts::write_matches(valid, &list[..words], out)
 }
 
 // The text of the answer on the tables of a job.
@@ -25,7 +25,7 @@ fn answer(bytes: &[u8], ends: &[u32], schema: &[u32], instance: &[u32], out: &mu
     match matches {
         Matches::Valid(pairs) => write_pairs(true, &list, pairs, out),
         Matches::NotValid(pairs) => write_pairs(false, &list, pairs, out),
-        Matches::NotMatched(code, place) => writer::write_refusal(code, place, out),
+        Matches::NotMatched(code, place) => texts::write_refusal(code, place, out),
     }
 }
 
@@ -51,6 +51,6 @@ pub fn report(file: &[u8], out: &mut [u8]) -> u32
                 out,
             )
         }
-        JobRead::NotRead(code, place) => writer::write_refusal(code, place, out),
+        JobRead::NotRead(code, place) => texts::write_refusal(code, place, out),
     }
 }

@@ -13,9 +13,9 @@ use Rattle.classes.specs.Membership.{inClass}
 use Rattle.places.specs.Places.{PlaceFault}
 use Rattle.places.specs.Names.{NameFault}
 use Rattle.places.specs.Paths.{PathFault, isPair, notInExcept, in-repeated-pair, in-except}
-use Rattle.restrictions.specs.Content.{SequenceFault}
-use Rattle.restrictions.specs.Attributes.{AttributeFault, duplicate}
-use Rattle.restrictions.specs.Interleaves.{InterleaveFault, classReferred, same-element, text-twice}
+use Rattle.sequences.specs.Content.{SequenceFault}
+use Rattle.occurrences.specs.Attributes.{AttributeFault, duplicate}
+use Rattle.occurrences.specs.Interleaves.{InterleaveFault, classReferred, same-element, text-twice}
 use Rattle.restrictions.specs.Schema.{SchemaVerdict}
 
 -- no code from 2 to 8 finds a fault

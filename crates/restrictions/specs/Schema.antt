@@ -7,9 +7,9 @@ use Rattle.schema.specs.RowRule.{RowFault}
 use Rattle.places.specs.Places.{PlaceFault}
 use Rattle.places.specs.Names.{NameFault}
 use Rattle.places.specs.Paths.{PathFault}
-use Rattle.restrictions.specs.Content.{SequenceFault}
-use Rattle.restrictions.specs.Attributes.{AttributeFault}
-use Rattle.restrictions.specs.Interleaves.{InterleaveFault}
+use Rattle.sequences.specs.Content.{SequenceFault}
+use Rattle.occurrences.specs.Attributes.{AttributeFault}
+use Rattle.occurrences.specs.Interleaves.{InterleaveFault}
 
 -- codes 2 to 8 over the rows of a schema beside so many strings, and after them what next says
 abbrev pub SchemaTries : ℕ → List ℕ → (Verdict → Type 0) → Verdict → Type 0

@@ -16,8 +16,8 @@ use Rattle.schema.proofs.Sorts.{definition-kind, class-a}
 use Rattle.classes.specs.Membership.{inClass}
 use Rattle.places.specs.Paths as path
 use Rattle.instance.specs.Nodes as node
-use Rattle.restrictions.specs.Content.{HasType, simpleType, complexType}
-use Rattle.restrictions.specs.Interleaves.{classReferred}
+use Rattle.sequences.specs.Content.{HasType, simpleType, complexType}
+use Rattle.occurrences.specs.Interleaves.{classReferred}
 use Rattle.restrictions.proofs.Passes.{SchemaPasses, attributes-apart, elements-apart, texts-apart}
 use Rattle.restrictions.proofs.Passes as passes
 use Rattle.rules.specs.Items.{Item, element, string, Lookups}

@@ -4,4 +4,3 @@ pub mod Fields
 pub mod RowLaws
 pub mod Shapes
 pub mod Sorts
-pub mod Uses

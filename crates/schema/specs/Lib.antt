@@ -1,5 +1,4 @@
 pub mod Bounded
-pub mod Counts
 pub mod Falling
 pub mod Kinds
 pub mod Relations

@@ -1,5 +1,5 @@
 -- What the writer of job files promises: the text of the tables, or the refusal.
-use Prim.Native.Nat.{ℕ, _/_, _%_, _≤_, _<_}
+use Prim.Native.Nat.{ℕ, _/_, _%_, _<_}
 use mathlib.Core.Path.{_≡_}
 use mathlib.Core.Logic.{_≢_}
 use mathlib.Core.List.{List}
@@ -37,8 +37,3 @@ pub record WriteJob (bytes ends schema instance : List ℕ) (room : ℕ) (out : 
   pub answer : writtenVerdict r ≡ Passed → r ≡ Written (length (jobText bytes ends schema instance))
   pub written : writtenVerdict r ≡ Passed → out ≡ laid room (jobText bytes ends schema instance)
   pub refused : (code place : ℕ) → writtenVerdict r ≡ Refused code place → out ≡ zeros room
-
--- a text in an output of so many bytes, with zeros after it, and its length; zeros throughout and 0 where the output is too short
-pub record TextIn (text : List ℕ) (room : ℕ) (out : List ℕ) (r : ℕ) : Type 0 where
-  pub fits : length text ≤ room → (out ≡ laid room text) × (r ≡ length text)
-  pub short : room < length text → (out ≡ zeros room) × (r ≡ 0)

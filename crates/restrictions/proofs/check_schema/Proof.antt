@@ -19,7 +19,9 @@ refusal-requires : tie.Need-refusal-requires
 refusal-requires c κs = search needs
 
 returns : tie.Need-returns
-returns c = stops 2 (c .before .before .before .check-rows .ensures) (c .before .enum-told2 .given .1) (c .refusal .ensures)
+returns c =
+    let check-rows = c .before .before .before .check-rows in
+    stops 2 (check-rows .ensures) (c .before .enum-told2 .given .1) (c .refusal .ensures)
 
 check-places-requires : tie.Need-check-places-requires
 check-places-requires c κs = search needs
@@ -34,7 +36,12 @@ refusal-requires-2 : tie.Need-refusal-requires-2
 refusal-requires-2 c κs = search needs
 
 returns-2 : tie.Need-returns-2
-returns-2 c = on 2 (c .before .before .before .before .before .before .check-rows .ensures) (c .before .before .before .before .enum-told .given .1) (stops 3 (c .before .before .before .check-places .ensures .finds (few-rows (right-size (found-none _ (c .before .before .before .before .before .before .check-rows .ensures) (c .before .before .before .before .enum-told .given .1))))) (c .before .enum-told4 .given .1) (c .refusal2 .ensures))
+returns-2 c =
+    let check-rows = c .before .before .before .before .before .before .check-rows in
+    let check-places = c .before .before .before .check-places in
+    let right = right-size (found-none _ (check-rows .ensures) (c .before .before .before .before .enum-told .given .1)) in
+    on 2 (check-rows .ensures) (c .before .before .before .before .enum-told .given .1)
+    (stops 3 (check-places .ensures .finds (few-rows right)) (c .before .enum-told4 .given .1) (c .refusal2 .ensures))
 
 check-names-requires : tie.Need-check-names-requires
 check-names-requires c κs = search needs
@@ -49,7 +56,14 @@ refusal-requires-3 : tie.Need-refusal-requires-3
 refusal-requires-3 c κs = search needs
 
 returns-3 : tie.Need-returns-3
-returns-3 c = on 2 (c .before .before .before .before .before .before .before .before .before .check-rows .ensures) (c .before .before .before .before .before .before .before .enum-told .given .1) (on 3 (c .before .before .before .before .before .before .check-places .ensures .finds (few-rows (right-size (found-none _ (c .before .before .before .before .before .before .before .before .before .check-rows .ensures) (c .before .before .before .before .before .before .before .enum-told .given .1))))) (c .before .before .before .before .enum-told3 .given .1) (stops 4 (c .before .before .before .check-names .ensures .finds (few-rows (right-size (found-none _ (c .before .before .before .before .before .before .before .before .before .check-rows .ensures) (c .before .before .before .before .before .before .before .enum-told .given .1))))) (c .before .enum-told6 .given .1) (c .refusal3 .ensures)))
+returns-3 c =
+    let check-rows = c .before .before .before .before .before .before .before .before .before .check-rows in
+    let check-places = c .before .before .before .before .before .before .check-places in
+    let check-names = c .before .before .before .check-names in
+    let right = right-size (found-none _ (check-rows .ensures) (c .before .before .before .before .before .before .before .enum-told .given .1)) in
+    on 2 (check-rows .ensures) (c .before .before .before .before .before .before .before .enum-told .given .1)
+    (on 3 (check-places .ensures .finds (few-rows right)) (c .before .before .before .before .enum-told3 .given .1)
+    (stops 4 (check-names .ensures .finds (few-rows right)) (c .before .enum-told6 .given .1) (c .refusal3 .ensures)))
 
 check-paths-requires : tie.Need-check-paths-requires
 check-paths-requires c κs = search needs
@@ -64,10 +78,19 @@ refusal-requires-4 : tie.Need-refusal-requires-4
 refusal-requires-4 c κs = search needs
 
 returns-4 : tie.Need-returns-4
-returns-4 c = on 2 (c .before .before .before .before .before .before .before .before .before .before .before .before .check-rows .ensures) (c .before .before .before .before .before .before .before .before .before .before .enum-told .given .1) (on 3 (c .before .before .before .before .before .before .before .before .before .check-places .ensures .finds (few-rows (right-size (found-none _ (c .before .before .before .before .before .before .before .before .before .before .before .before .check-rows .ensures) (c .before .before .before .before .before .before .before .before .before .before .enum-told .given .1))))) (c .before .before .before .before .before .before .before .enum-told3 .given .1) (on 4 (c .before .before .before .before .before .before .check-names .ensures .finds (few-rows (right-size (found-none _ (c .before .before .before .before .before .before .before .before .before .before .before .before .check-rows .ensures) (c .before .before .before .before .before .before .before .before .before .before .enum-told .given .1))))) (c .before .before .before .before .enum-told5 .given .1) (stops 5 (c .before .before .before .check-paths .ensures .finds (few-rows (right-size (found-none _ (c .before .before .before .before .before .before .before .before .before .before .before .before .check-rows .ensures) (c .before .before .before .before .before .before .before .before .before .before .enum-told .given .1))))) (c .before .enum-told8 .given .1) (c .refusal4 .ensures))))
+returns-4 c =
+    let check-rows = c .before .before .before .before .before .before .before .before .before .before .before .before .check-rows in
+    let check-places = c .before .before .before .before .before .before .before .before .before .check-places in
+    let check-names = c .before .before .before .before .before .before .check-names in
+    let check-paths = c .before .before .before .check-paths in
+    let right = right-size (found-none _ (check-rows .ensures) (c .before .before .before .before .before .before .before .before .before .before .enum-told .given .1)) in
+    on 2 (check-rows .ensures) (c .before .before .before .before .before .before .before .before .before .before .enum-told .given .1)
+    (on 3 (check-places .ensures .finds (few-rows right)) (c .before .before .before .before .before .before .before .enum-told3 .given .1)
+    (on 4 (check-names .ensures .finds (few-rows right)) (c .before .before .before .before .enum-told5 .given .1)
+    (stops 5 (check-paths .ensures .finds (few-rows right)) (c .before .enum-told8 .given .1) (c .refusal4 .ensures))))
 
 check-content-requires : tie.Need-check-content-requires
-check-content-requires c κs = right-size (found-none _ (c .before .before .before .before .before .before .before .before .before .before .before .check-rows .ensures) (c .before .before .before .before .before .before .before .before .before .enum-told .given .1))
+check-content-requires c κs = search needs
 
 enum-told-9 : tie.Need-enum-told-9
 enum-told-9 c = search needs
@@ -79,10 +102,21 @@ refusal-requires-5 : tie.Need-refusal-requires-5
 refusal-requires-5 c κs = search needs
 
 returns-5 : tie.Need-returns-5
-returns-5 c = on 2 (c .before .before .before .before .before .before .before .before .before .before .before .before .before .before .before .check-rows .ensures) (c .before .before .before .before .before .before .before .before .before .before .before .before .before .enum-told .given .1) (on 3 (c .before .before .before .before .before .before .before .before .before .before .before .before .check-places .ensures .finds (few-rows (right-size (found-none _ (c .before .before .before .before .before .before .before .before .before .before .before .before .before .before .before .check-rows .ensures) (c .before .before .before .before .before .before .before .before .before .before .before .before .before .enum-told .given .1))))) (c .before .before .before .before .before .before .before .before .before .before .enum-told3 .given .1) (on 4 (c .before .before .before .before .before .before .before .before .before .check-names .ensures .finds (few-rows (right-size (found-none _ (c .before .before .before .before .before .before .before .before .before .before .before .before .before .before .before .check-rows .ensures) (c .before .before .before .before .before .before .before .before .before .before .before .before .before .enum-told .given .1))))) (c .before .before .before .before .before .before .before .enum-told5 .given .1) (on 5 (c .before .before .before .before .before .before .check-paths .ensures .finds (few-rows (right-size (found-none _ (c .before .before .before .before .before .before .before .before .before .before .before .before .before .before .before .check-rows .ensures) (c .before .before .before .before .before .before .before .before .before .before .before .before .before .enum-told .given .1))))) (c .before .before .before .before .enum-told7 .given .1) (stops 6 (c .before .before .before .check-content .ensures) (c .before .enum-told10 .given .1) (c .refusal5 .ensures)))))
+returns-5 c =
+    let check-rows = c .before .before .before .before .before .before .before .before .before .before .before .before .before .before .before .check-rows in
+    let check-places = c .before .before .before .before .before .before .before .before .before .before .before .before .check-places in
+    let check-names = c .before .before .before .before .before .before .before .before .before .check-names in
+    let check-paths = c .before .before .before .before .before .before .check-paths in
+    let check-content = c .before .before .before .check-content in
+    let right = right-size (found-none _ (check-rows .ensures) (c .before .before .before .before .before .before .before .before .before .before .before .before .before .enum-told .given .1)) in
+    on 2 (check-rows .ensures) (c .before .before .before .before .before .before .before .before .before .before .before .before .before .enum-told .given .1)
+    (on 3 (check-places .ensures .finds (few-rows right)) (c .before .before .before .before .before .before .before .before .before .before .enum-told3 .given .1)
+    (on 4 (check-names .ensures .finds (few-rows right)) (c .before .before .before .before .before .before .before .enum-told5 .given .1)
+    (on 5 (check-paths .ensures .finds (few-rows right)) (c .before .before .before .before .enum-told7 .given .1)
+    (stops 6 (check-content .ensures right) (c .before .enum-told10 .given .1) (c .refusal5 .ensures)))))
 
 check-attributes-requires : tie.Need-check-attributes-requires
-check-attributes-requires c κs = right-size (found-none _ (c .before .before .before .before .before .before .before .before .before .before .before .before .before .before .check-rows .ensures) (c .before .before .before .before .before .before .before .before .before .before .before .before .enum-told .given .1))
+check-attributes-requires c κs = search needs
 
 enum-told-11 : tie.Need-enum-told-11
 enum-told-11 c = search needs
@@ -94,16 +128,44 @@ refusal-requires-6 : tie.Need-refusal-requires-6
 refusal-requires-6 c κs = search needs
 
 returns-6 : tie.Need-returns-6
-returns-6 c = on 2 (c .before .before .before .before .before .before .before .before .before .before .before .before .before .before .before .before .before .before .check-rows .ensures) (c .before .before .before .before .before .before .before .before .before .before .before .before .before .before .before .before .enum-told .given .1) (on 3 (c .before .before .before .before .before .before .before .before .before .before .before .before .before .before .before .check-places .ensures .finds (few-rows (right-size (found-none _ (c .before .before .before .before .before .before .before .before .before .before .before .before .before .before .before .before .before .before .check-rows .ensures) (c .before .before .before .before .before .before .before .before .before .before .before .before .before .before .before .before .enum-told .given .1))))) (c .before .before .before .before .before .before .before .before .before .before .before .before .before .enum-told3 .given .1) (on 4 (c .before .before .before .before .before .before .before .before .before .before .before .before .check-names .ensures .finds (few-rows (right-size (found-none _ (c .before .before .before .before .before .before .before .before .before .before .before .before .before .before .before .before .before .before .check-rows .ensures) (c .before .before .before .before .before .before .before .before .before .before .before .before .before .before .before .before .enum-told .given .1))))) (c .before .before .before .before .before .before .before .before .before .before .enum-told5 .given .1) (on 5 (c .before .before .before .before .before .before .before .before .before .check-paths .ensures .finds (few-rows (right-size (found-none _ (c .before .before .before .before .before .before .before .before .before .before .before .before .before .before .before .before .before .before .check-rows .ensures) (c .before .before .before .before .before .before .before .before .before .before .before .before .before .before .before .before .enum-told .given .1))))) (c .before .before .before .before .before .before .before .enum-told7 .given .1) (on 6 (c .before .before .before .before .before .before .check-content .ensures) (c .before .before .before .before .enum-told9 .given .1) (stops 7 (c .before .before .before .check-attributes .ensures) (c .before .enum-told12 .given .1) (c .refusal6 .ensures))))))
+returns-6 c =
+    let check-rows = c .before .before .before .before .before .before .before .before .before .before .before .before .before .before .before .before .before .before .check-rows in
+    let check-places = c .before .before .before .before .before .before .before .before .before .before .before .before .before .before .before .check-places in
+    let check-names = c .before .before .before .before .before .before .before .before .before .before .before .before .check-names in
+    let check-paths = c .before .before .before .before .before .before .before .before .before .check-paths in
+    let check-content = c .before .before .before .before .before .before .check-content in
+    let check-attributes = c .before .before .before .check-attributes in
+    let right = right-size (found-none _ (check-rows .ensures) (c .before .before .before .before .before .before .before .before .before .before .before .before .before .before .before .before .enum-told .given .1)) in
+    on 2 (check-rows .ensures) (c .before .before .before .before .before .before .before .before .before .before .before .before .before .before .before .before .enum-told .given .1)
+    (on 3 (check-places .ensures .finds (few-rows right)) (c .before .before .before .before .before .before .before .before .before .before .before .before .before .enum-told3 .given .1)
+    (on 4 (check-names .ensures .finds (few-rows right)) (c .before .before .before .before .before .before .before .before .before .before .enum-told5 .given .1)
+    (on 5 (check-paths .ensures .finds (few-rows right)) (c .before .before .before .before .before .before .before .enum-told7 .given .1)
+    (on 6 (check-content .ensures right) (c .before .before .before .before .enum-told9 .given .1)
+    (stops 7 (check-attributes .ensures right) (c .before .enum-told12 .given .1) (c .refusal6 .ensures))))))
 
 check-interleaves-requires : tie.Need-check-interleaves-requires
-check-interleaves-requires c κs = right-size (found-none _ (c .before .before .before .before .before .before .before .before .before .before .before .before .before .before .before .before .before .check-rows .ensures) (c .before .before .before .before .before .before .before .before .before .before .before .before .before .before .before .enum-told .given .1))
+check-interleaves-requires c κs = search needs
 
 refusal-requires-7 : tie.Need-refusal-requires-7
 refusal-requires-7 c κs = search needs
 
 returns-7 : tie.Need-returns-7
-returns-7 c = on 2 (c .before .before .before .before .before .before .before .before .before .before .before .before .before .before .before .before .before .before .before .check-rows .ensures) (c .before .before .before .before .before .before .before .before .before .before .before .before .before .before .before .before .before .enum-told .given .1) (on 3 (c .before .before .before .before .before .before .before .before .before .before .before .before .before .before .before .before .check-places .ensures .finds (few-rows (right-size (found-none _ (c .before .before .before .before .before .before .before .before .before .before .before .before .before .before .before .before .before .before .before .check-rows .ensures) (c .before .before .before .before .before .before .before .before .before .before .before .before .before .before .before .before .before .enum-told .given .1))))) (c .before .before .before .before .before .before .before .before .before .before .before .before .before .before .enum-told3 .given .1) (on 4 (c .before .before .before .before .before .before .before .before .before .before .before .before .before .check-names .ensures .finds (few-rows (right-size (found-none _ (c .before .before .before .before .before .before .before .before .before .before .before .before .before .before .before .before .before .before .before .check-rows .ensures) (c .before .before .before .before .before .before .before .before .before .before .before .before .before .before .before .before .before .enum-told .given .1))))) (c .before .before .before .before .before .before .before .before .before .before .before .enum-told5 .given .1) (on 5 (c .before .before .before .before .before .before .before .before .before .before .check-paths .ensures .finds (few-rows (right-size (found-none _ (c .before .before .before .before .before .before .before .before .before .before .before .before .before .before .before .before .before .before .before .check-rows .ensures) (c .before .before .before .before .before .before .before .before .before .before .before .before .before .before .before .before .before .enum-told .given .1))))) (c .before .before .before .before .before .before .before .before .enum-told7 .given .1) (on 6 (c .before .before .before .before .before .before .before .check-content .ensures) (c .before .before .before .before .before .enum-told9 .given .1) (on 7 (c .before .before .before .before .check-attributes .ensures) (c .before .before .enum-told11 .given .1) (last-code 8 (c .before .check-interleaves .result) (c .before .check-interleaves .ensures) (c .refusal7 .ensures)))))))
+returns-7 c =
+    let check-rows = c .before .before .before .before .before .before .before .before .before .before .before .before .before .before .before .before .before .before .before .check-rows in
+    let check-places = c .before .before .before .before .before .before .before .before .before .before .before .before .before .before .before .before .check-places in
+    let check-names = c .before .before .before .before .before .before .before .before .before .before .before .before .before .check-names in
+    let check-paths = c .before .before .before .before .before .before .before .before .before .before .check-paths in
+    let check-content = c .before .before .before .before .before .before .before .check-content in
+    let check-attributes = c .before .before .before .before .check-attributes in
+    let check-interleaves = c .before .check-interleaves in
+    let right = right-size (found-none _ (check-rows .ensures) (c .before .before .before .before .before .before .before .before .before .before .before .before .before .before .before .before .before .enum-told .given .1)) in
+    on 2 (check-rows .ensures) (c .before .before .before .before .before .before .before .before .before .before .before .before .before .before .before .before .before .enum-told .given .1)
+    (on 3 (check-places .ensures .finds (few-rows right)) (c .before .before .before .before .before .before .before .before .before .before .before .before .before .before .enum-told3 .given .1)
+    (on 4 (check-names .ensures .finds (few-rows right)) (c .before .before .before .before .before .before .before .before .before .before .before .enum-told5 .given .1)
+    (on 5 (check-paths .ensures .finds (few-rows right)) (c .before .before .before .before .before .before .before .before .enum-told7 .given .1)
+    (on 6 (check-content .ensures right) (c .before .before .before .before .before .enum-told9 .given .1)
+    (on 7 (check-attributes .ensures right) (c .before .before .enum-told11 .given .1)
+    (last-code 8 (check-interleaves .result) (check-interleaves .ensures right) (c .refusal7 .ensures)))))))
 
 pub check-schema-spec : {M : Type 1} → statement M
 check-schema-spec =

@@ -1,5 +1,5 @@
 -- The place of a table's fault is 0.
-use Rattle.writer.proofs.Writing.{table-fine}
+use Rattle.writer.proofs.Job.{table-fine}
 use Rattle.writer.proofs.check_table.Statement.{statement}
 use Rattle.writer.proofs.check_table.Tie as tie
 use Rattle.writer.specs.Promises.{too-many-rows, broken-length}

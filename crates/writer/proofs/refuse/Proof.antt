@@ -1,7 +1,7 @@
 -- A refusal, and zeros.
 use Rattle.writer.proofs.refuse.Statement.{statement}
 use Rattle.writer.proofs.refuse.Tie as tie
-use Rattle.writer.specs.Writing.{notWritten}
+use Rattle.writer.specs.Refused.{notWritten}
 use borrow.Author.Needs.{needs}
 use mathlib.Core.Path.{ap, sym}
 

@@ -1,23 +1,14 @@
 -- Each check stops the writer or lets it go on; a text that is too long is taken back.
-use Prim.Native.Nat.{ℕ}
-use Rattle.jobs.specs.Written.{jobText}
-use Rattle.tables.proofs.Answers.{found-none}
-use Rattle.tables.proofs.Chain.{stops, on}
-use Rattle.tables.specs.Outputs.{zeros}
-use Rattle.tables.specs.Refusals.{refusalOf}
-use Rattle.writer.proofs.Job.{refused-by, refused-with, accepted, over, passes, sized}
-use Rattle.writer.proofs.Writing.{wrote-length}
-use Rattle.writer.proofs.write_job.Statement.{statement}
-use Rattle.writer.proofs.write_job.Tie as tie
-use Rattle.writer.specs.Promises.{too-long, too-short}
-use Rattle.writer.specs.declared.JobWritten.the-variants.{Written}
+use mathlib.Core.Path.{refl, ap, sym}
 use borrow.Author.Needs.{needs}
 use denote.Ref.{now}
-use lib.ListN.{length, length-replicate}
-use lib.Seq.{sets}
-use mathlib.Core.Path.{refl, ap, sym, _∙_}
-use native.Mathlib.Nat.{zero-add}
-use native.Mathlib.Omega.{arith}
+use lib.ListN.{length}
+use Rattle.tables.proofs.Answers.{found-none}
+use Rattle.tables.proofs.Chain.{stops, on}
+use Rattle.tables.specs.Refusals.{refusalOf}
+use Rattle.writer.proofs.Job.{refused-by, text-too-long, room-too-short, text-written}
+use Rattle.writer.proofs.write_job.Statement.{statement}
+use Rattle.writer.proofs.write_job.Tie as tie
 
 check-strings-requires : tie.Need-check-strings-requires
 check-strings-requires c κs = search needs
@@ -86,7 +77,7 @@ zero-u8-requires : tie.Need-zero-u8-requires
 zero-u8-requires c κs = search needs
 
 put-job-requires : tie.Need-put-job-requires
-put-job-requires c κs = sized (now (c .before .before .before .before .before .before .before .before .before .before .before .before .before .before .before .before .before .before .before .args .bytes)) (now (c .before .before .before .before .before .before .before .before .before .before .before .before .before .before .before .before .before .before .before .args .ends)) (now (c .before .before .before .before .before .before .before .before .before .before .before .before .before .before .before .before .before .before .before .args .schema)) (now (c .before .before .before .before .before .before .before .before .before .before .before .before .before .before .before .before .before .before .before .args .instance)) (length (now (c .before .before .before .before .before .before .before .before .before .before .before .before .before .before .before .before .before .before .before .args .out))) (found-none _ (c .before .before .before .before .before .before .before .before .before .before .before .before .before .check-strings .ensures) (c .before .before .before .before .before .before .before .before .before .before .before .enum-told .given .1)) (found-none _ (c .before .before .before .before .before .before .before .before .before .before .check-table .ensures) (c .before .before .before .before .before .before .before .before .enum-told3 .given .1)) (found-none _ (c .before .before .before .before .before .before .before .check-table2 .ensures) (c .before .before .before .before .before .enum-told5 .given .1))
+put-job-requires c κs = search needs
 
 refuse-requires-4 : tie.Need-refuse-requires-4
 refuse-requires-4 c κs = search needs
@@ -95,7 +86,14 @@ same-length-4 : tie.Need-same-length-4
 same-length-4 c = search needs
 
 returns-4 : tie.Need-returns-4
-returns-4 c = refused-with (now (c .before .before .before .before .before .before .before .before .before .before .before .before .before .before .before .before .before .before .before .before .before .before .before .before .before .before .before .args .bytes)) (now (c .before .before .before .before .before .before .before .before .before .before .before .before .before .before .before .before .before .before .before .before .before .before .before .before .before .before .before .args .ends)) (now (c .before .before .before .before .before .before .before .before .before .before .before .before .before .before .before .before .before .before .before .before .before .before .before .before .before .before .before .args .schema)) (now (c .before .before .before .before .before .before .before .before .before .before .before .before .before .before .before .before .before .before .before .before .before .before .before .before .before .before .before .args .instance)) (length (now (c .before .before .before .before .before .before .before .before .before .before .before .before .before .before .before .before .before .before .before .before .before .before .before .before .before .before .before .args .out))) (c .before .before .refuse4 .ensures .0) (c .before .before .refuse4 .ensures .1 ∙ ap zeros (wrote-length (c .before .before .before .before .before .before .before .put-job .ensures) ∙ ap length (c .before .before .before .before .before .before .before .before .before .before .before .zero-u8 .ensures) ∙ length-replicate {A = ℕ} (length (now (c .before .before .before .before .before .before .before .before .before .before .before .before .before .before .before .before .before .before .before .before .before .before .before .before .before .before .before .args .out))) 0)) (over (now (c .before .before .before .before .before .before .before .before .before .before .before .before .before .before .before .before .before .before .before .before .before .before .before .before .before .before .before .args .bytes)) (now (c .before .before .before .before .before .before .before .before .before .before .before .before .before .before .before .before .before .before .before .before .before .before .before .before .before .before .before .args .ends)) (now (c .before .before .before .before .before .before .before .before .before .before .before .before .before .before .before .before .before .before .before .before .before .before .before .before .before .before .before .args .schema)) (now (c .before .before .before .before .before .before .before .before .before .before .before .before .before .before .before .before .before .before .before .before .before .before .before .before .before .before .before .args .instance)) (length (now (c .before .before .before .before .before .before .before .before .before .before .before .before .before .before .before .before .before .before .before .before .before .before .before .before .before .before .before .args .out))) (found-none _ (c .before .before .before .before .before .before .before .before .before .before .before .before .before .before .before .before .before .before .before .before .before .check-strings .ensures) (c .before .before .before .before .before .before .before .before .before .before .before .before .before .before .before .before .before .before .before .enum-told .given .1)) (found-none _ (c .before .before .before .before .before .before .before .before .before .before .before .before .before .before .before .before .before .before .check-table .ensures) (c .before .before .before .before .before .before .before .before .before .before .before .before .before .before .before .before .enum-told3 .given .1)) (found-none _ (c .before .before .before .before .before .before .before .before .before .before .before .before .before .before .before .check-table2 .ensures) (c .before .before .before .before .before .before .before .before .before .before .before .before .before .enum-told5 .given .1)) (too-long (let m = c .before .before .before .before .before .before .before .put-job .ensures .moves in omega arith) refl))
+returns-4 c =
+    let args = c .before .before .before .before .before .before .before .before .before .before .before .before .before .before .before .before .before .before .before .before .before .before .before .before .before .before .before .args in
+    let strings = found-none _ (c .before .before .before .before .before .before .before .before .before .before .before .before .before .before .before .before .before .before .before .before .before .check-strings .ensures) (c .before .before .before .before .before .before .before .before .before .before .before .before .before .before .before .before .before .before .before .enum-told .given .1) in
+    let rows = found-none _ (c .before .before .before .before .before .before .before .before .before .before .before .before .before .before .before .before .before .before .check-table .ensures) (c .before .before .before .before .before .before .before .before .before .before .before .before .before .before .before .before .enum-told3 .given .1) in
+    let nodes = found-none _ (c .before .before .before .before .before .before .before .before .before .before .before .before .before .before .before .check-table2 .ensures) (c .before .before .before .before .before .before .before .before .before .before .before .before .before .enum-told5 .given .1) in
+    let zero-u8 = c .before .before .before .before .before .before .before .before .before .before .before .zero-u8 in
+    let put-job = c .before .before .before .before .before .before .before .put-job in
+    text-too-long (args .bytes .now) (args .ends .now) (args .schema .now) (args .instance .now) (length (args .out .now)) strings rows nodes (zero-u8 .ensures) (put-job .ensures) (c .before .before .refuse4 .ensures .0) (c .before .before .refuse4 .ensures .1) (c .before .before .before .before .if1 .taken)
 
 refuse-requires-5 : tie.Need-refuse-requires-5
 refuse-requires-5 c κs = search needs
@@ -104,7 +102,14 @@ same-length-5 : tie.Need-same-length-5
 same-length-5 c = search needs
 
 returns-5 : tie.Need-returns-5
-returns-5 c = refused-with (now (c .before .before .before .before .before .before .before .before .before .before .before .before .before .before .before .before .before .before .before .before .before .before .before .before .before .before .before .before .args .bytes)) (now (c .before .before .before .before .before .before .before .before .before .before .before .before .before .before .before .before .before .before .before .before .before .before .before .before .before .before .before .before .args .ends)) (now (c .before .before .before .before .before .before .before .before .before .before .before .before .before .before .before .before .before .before .before .before .before .before .before .before .before .before .before .before .args .schema)) (now (c .before .before .before .before .before .before .before .before .before .before .before .before .before .before .before .before .before .before .before .before .before .before .before .before .before .before .before .before .args .instance)) (length (now (c .before .before .before .before .before .before .before .before .before .before .before .before .before .before .before .before .before .before .before .before .before .before .before .before .before .before .before .before .args .out))) (c .before .before .refuse5 .ensures .0) (c .before .before .refuse5 .ensures .1 ∙ ap zeros (wrote-length (c .before .before .before .before .before .before .before .before .put-job .ensures) ∙ ap length (c .before .before .before .before .before .before .before .before .before .before .before .before .zero-u8 .ensures) ∙ length-replicate {A = ℕ} (length (now (c .before .before .before .before .before .before .before .before .before .before .before .before .before .before .before .before .before .before .before .before .before .before .before .before .before .before .before .before .args .out))) 0)) (over (now (c .before .before .before .before .before .before .before .before .before .before .before .before .before .before .before .before .before .before .before .before .before .before .before .before .before .before .before .before .args .bytes)) (now (c .before .before .before .before .before .before .before .before .before .before .before .before .before .before .before .before .before .before .before .before .before .before .before .before .before .before .before .before .args .ends)) (now (c .before .before .before .before .before .before .before .before .before .before .before .before .before .before .before .before .before .before .before .before .before .before .before .before .before .before .before .before .args .schema)) (now (c .before .before .before .before .before .before .before .before .before .before .before .before .before .before .before .before .before .before .before .before .before .before .before .before .before .before .before .before .args .instance)) (length (now (c .before .before .before .before .before .before .before .before .before .before .before .before .before .before .before .before .before .before .before .before .before .before .before .before .before .before .before .before .args .out))) (found-none _ (c .before .before .before .before .before .before .before .before .before .before .before .before .before .before .before .before .before .before .before .before .before .before .check-strings .ensures) (c .before .before .before .before .before .before .before .before .before .before .before .before .before .before .before .before .before .before .before .before .enum-told .given .1)) (found-none _ (c .before .before .before .before .before .before .before .before .before .before .before .before .before .before .before .before .before .before .before .check-table .ensures) (c .before .before .before .before .before .before .before .before .before .before .before .before .before .before .before .before .before .enum-told3 .given .1)) (found-none _ (c .before .before .before .before .before .before .before .before .before .before .before .before .before .before .before .before .check-table2 .ensures) (c .before .before .before .before .before .before .before .before .before .before .before .before .before .before .enum-told5 .given .1)) (too-short (let m = c .before .before .before .before .before .before .before .before .put-job .ensures .moves in let l = wrote-length (c .before .before .before .before .before .before .before .before .put-job .ensures) ∙ ap length (c .before .before .before .before .before .before .before .before .before .before .before .before .zero-u8 .ensures) ∙ length-replicate {A = ℕ} (length (now (c .before .before .before .before .before .before .before .before .before .before .before .before .before .before .before .before .before .before .before .before .before .before .before .before .before .before .before .before .args .out))) 0 in omega arith) refl))
+returns-5 c =
+    let args = c .before .before .before .before .before .before .before .before .before .before .before .before .before .before .before .before .before .before .before .before .before .before .before .before .before .before .before .before .args in
+    let strings = found-none _ (c .before .before .before .before .before .before .before .before .before .before .before .before .before .before .before .before .before .before .before .before .before .before .check-strings .ensures) (c .before .before .before .before .before .before .before .before .before .before .before .before .before .before .before .before .before .before .before .before .enum-told .given .1) in
+    let rows = found-none _ (c .before .before .before .before .before .before .before .before .before .before .before .before .before .before .before .before .before .before .before .check-table .ensures) (c .before .before .before .before .before .before .before .before .before .before .before .before .before .before .before .before .before .enum-told3 .given .1) in
+    let nodes = found-none _ (c .before .before .before .before .before .before .before .before .before .before .before .before .before .before .before .before .check-table2 .ensures) (c .before .before .before .before .before .before .before .before .before .before .before .before .before .before .enum-told5 .given .1) in
+    let zero-u8 = c .before .before .before .before .before .before .before .before .before .before .before .before .zero-u8 in
+    let put-job = c .before .before .before .before .before .before .before .before .put-job in
+    room-too-short (args .bytes .now) (args .ends .now) (args .schema .now) (args .instance .now) (length (args .out .now)) strings rows nodes (zero-u8 .ensures) (put-job .ensures) (c .before .before .refuse5 .ensures .0) (c .before .before .refuse5 .ensures .1) (c .before .before .before .before .if2 .taken)
 
 cast-t32 : tie.Need-cast-t32
 cast-t32 c = search needs
@@ -113,7 +118,14 @@ same-length-6 : tie.Need-same-length-6
 same-length-6 c = search needs
 
 returns-6 : tie.Need-returns-6
-returns-6 c = let m = c .before .before .before .before .put-job .ensures .moves in let l = wrote-length (c .before .before .before .before .put-job .ensures) ∙ ap length (c .before .before .before .before .before .before .before .before .zero-u8 .ensures) ∙ length-replicate {A = ℕ} (length (now (c .before .before .before .before .before .before .before .before .before .before .before .before .before .before .before .before .before .before .before .before .before .before .before .before .args .out))) 0 in accepted (now (c .before .before .before .before .before .before .before .before .before .before .before .before .before .before .before .before .before .before .before .before .before .before .before .before .args .bytes)) (now (c .before .before .before .before .before .before .before .before .before .before .before .before .before .before .before .before .before .before .before .before .before .before .before .before .args .ends)) (now (c .before .before .before .before .before .before .before .before .before .before .before .before .before .before .before .before .before .before .before .before .before .before .before .before .args .schema)) (now (c .before .before .before .before .before .before .before .before .before .before .before .before .before .before .before .before .before .before .before .before .before .before .before .before .args .instance)) (length (now (c .before .before .before .before .before .before .before .before .before .before .before .before .before .before .before .before .before .before .before .before .before .before .before .before .args .out))) (ap Written (m ∙ zero-add _)) (omega arith) (c .before .before .before .before .put-job .ensures .holds ∙ ap (λ z. sets z 0 (jobText (now (c .before .before .before .before .before .before .before .before .before .before .before .before .before .before .before .before .before .before .before .before .before .before .before .before .args .bytes)) (now (c .before .before .before .before .before .before .before .before .before .before .before .before .before .before .before .before .before .before .before .before .before .before .before .before .args .ends)) (now (c .before .before .before .before .before .before .before .before .before .before .before .before .before .before .before .before .before .before .before .before .before .before .before .before .args .schema)) (now (c .before .before .before .before .before .before .before .before .before .before .before .before .before .before .before .before .before .before .before .before .before .before .before .before .args .instance)))) (c .before .before .before .before .before .before .before .before .zero-u8 .ensures)) (passes (now (c .before .before .before .before .before .before .before .before .before .before .before .before .before .before .before .before .before .before .before .before .before .before .before .before .args .bytes)) (now (c .before .before .before .before .before .before .before .before .before .before .before .before .before .before .before .before .before .before .before .before .before .before .before .before .args .ends)) (now (c .before .before .before .before .before .before .before .before .before .before .before .before .before .before .before .before .before .before .before .before .before .before .before .before .args .schema)) (now (c .before .before .before .before .before .before .before .before .before .before .before .before .before .before .before .before .before .before .before .before .before .before .before .before .args .instance)) (length (now (c .before .before .before .before .before .before .before .before .before .before .before .before .before .before .before .before .before .before .before .before .before .before .before .before .args .out))) (found-none _ (c .before .before .before .before .before .before .before .before .before .before .before .before .before .before .before .before .before .before .check-strings .ensures) (c .before .before .before .before .before .before .before .before .before .before .before .before .before .before .before .before .enum-told .given .1)) (found-none _ (c .before .before .before .before .before .before .before .before .before .before .before .before .before .before .before .check-table .ensures) (c .before .before .before .before .before .before .before .before .before .before .before .before .before .enum-told3 .given .1)) (found-none _ (c .before .before .before .before .before .before .before .before .before .before .before .before .check-table2 .ensures) (c .before .before .before .before .before .before .before .before .before .before .enum-told5 .given .1)) (omega arith) (omega arith))
+returns-6 c =
+    let args = c .before .before .before .before .before .before .before .before .before .before .before .before .before .before .before .before .before .before .before .before .before .before .before .before .args in
+    let strings = found-none _ (c .before .before .before .before .before .before .before .before .before .before .before .before .before .before .before .before .before .before .check-strings .ensures) (c .before .before .before .before .before .before .before .before .before .before .before .before .before .before .before .before .enum-told .given .1) in
+    let rows = found-none _ (c .before .before .before .before .before .before .before .before .before .before .before .before .before .before .before .check-table .ensures) (c .before .before .before .before .before .before .before .before .before .before .before .before .before .enum-told3 .given .1) in
+    let nodes = found-none _ (c .before .before .before .before .before .before .before .before .before .before .before .before .check-table2 .ensures) (c .before .before .before .before .before .before .before .before .before .before .enum-told5 .given .1) in
+    let zero-u8 = c .before .before .before .before .before .before .before .before .zero-u8 in
+    let put-job = c .before .before .before .before .put-job in
+    text-written (args .bytes .now) (args .ends .now) (args .schema .now) (args .instance .now) (length (args .out .now)) strings rows nodes (zero-u8 .ensures) (put-job .ensures) (c .before .if1 .left) (c .if2 .left) refl
 
 pub write-job-spec : {M : Type 1} → statement M
 write-job-spec =

@@ -1,0 +1,9 @@
+pub mod Fields
+pub mod Keys
+pub mod LastLine
+pub mod Pairs
+pub mod Passing
+pub mod Progress
+pub mod Split
+pub mod Stored
+pub mod Whole

@@ -1,0 +1,86 @@
+-- Codes 7 and 8 at one row, from what is found in its two sides.
+use mathlib.Core.Path.{_≡_, refl, sym, _∙_, ap}
+use mathlib.Core.Bool.{Bool, true, false, true≢false, false≢true}
+use mathlib.Core.List.{List}
+use Prim.Native.Nat.{ℕ, _<_}
+use native.Mathlib.Omega.{arith}
+use Rattle.tables.specs.Answers.{Decides}
+use Rattle.tables.proofs.Answers.{decides-same}
+use Rattle.schema.specs.Kinds as kind
+use Rattle.schema.specs.Rows.{rowsOf, kindOf, childA, childB}
+use Rattle.schema.specs.RowRule.{SizeRight}
+use Rattle.schema.proofs.RowLaws.{in-table}
+use Rattle.places.specs.Marks.{Marked, Marks, Under}
+use Rattle.places.specs.Paths.{isPair}
+use Rattle.places.specs.Sources.{HasKind}
+use Rattle.occurrences.specs.Attributes.{Infinite, AttributeFault, duplicate, not-repeated}
+use Rattle.occurrences.specs.Interleaves.{InterleaveFault, same-element, text-twice}
+use Rattle.occurrences.specs.Occurrences.{Somewhere, Suits}
+use Rattle.occurrences.specs.declared.Wanted.the-variants.{Text, AttributeMeeting, RefMeeting}
+
+module _ (s : List ℕ) (r : ℕ) where
+  -- the kind of an attribute is no group or interleave
+  unpaired : kindOf s r ≡ kind.attribute → isPair (kindOf s r) ≡ true → ⊥
+  unpaired e p = false≢true (sym (ap isPair e) ∙ p)
+
+  -- attributes on the two sides of a group or interleave
+  pub pair-decides : isPair (kindOf s r) ≡ true → (x : Bool) → Decides (Somewhere s (Suits s (AttributeMeeting (childB s r))) (childA s r)) x → Decides (AttributeFault s r) x
+  pair-decides p x = decides-same x to from
+    where
+      to : Somewhere s (Suits s (AttributeMeeting (childB s r))) (childA s r) → AttributeFault s r
+      to f = let g = f .2 .1 in duplicate (f .0) (g .0) (g .2 .1 .0) (g .2 .1 .1) p (f .1) (f .2 .0) (g .1) (g .2 .0) (g .2 .1 .2)
+
+      from : AttributeFault s r → Somewhere s (Suits s (AttributeMeeting (childB s r))) (childA s r)
+      from (duplicate x y u l q o k o′ k′ c) = (x, o, (k, (y, o′, (k′, (u, l, c)))))
+      from (not-repeated k i n) = absurd (unpaired k p)
+
+  -- another row that is no attribute
+  pub no-attribute-fault : isPair (kindOf s r) ≡ false → (kindOf s r ≡ kind.attribute → ⊥) → ¬ AttributeFault s r
+  no-attribute-fault p n (duplicate x y u l q o k o′ k′ c) = true≢false (sym q ∙ p)
+  no-attribute-fault p n (not-repeated k i m) = n k
+
+  module _ {repeated : List ℕ} (marks : Marks (Under s (HasKind s kind.oneOrMore)) repeated) (e : kindOf s r ≡ kind.attribute) where
+    -- an attribute below a oneOrMore may have any class
+    pub repeated-right : Marked repeated r → ¬ AttributeFault s r
+    repeated-right m (duplicate x y u l q o k o′ k′ c) = unpaired e q
+    repeated-right m (not-repeated k i n) = let under = marks .sound r m in n (under .row) (under .source) (under .below)
+
+    -- another may not have an infinite one
+    pub infinite-decides : ¬ Marked repeated r → (x : Bool) → Decides (Infinite s (childA s r)) x → Decides (AttributeFault s r) x
+    infinite-decides n x = decides-same x to from
+      where
+        to : Infinite s (childA s r) → AttributeFault s r
+        to i = not-repeated e i (λ p k b. n (marks .complete r (record { row = p; source = k; below = b })))
+
+        from : AttributeFault s r → Infinite s (childA s r)
+        from (duplicate x y u l q o k o′ k′ c) = absurd (unpaired e q)
+        from (not-repeated k i m) = i
+
+  -- only an interleave can break a restriction on interleave
+  pub no-interleave-fault : (kindOf s r ≡ kind.interleave → ⊥) → ¬ InterleaveFault s r
+  no-interleave-fault n (same-element x y u l k o kx o′ ky c) = n k
+  no-interleave-fault n (text-twice x y k o kx o′ ky) = n k
+
+  module _ (e : kindOf s r ≡ kind.interleave) where
+    pub element-fault : Somewhere s (Suits s (RefMeeting (childB s r))) (childA s r) → InterleaveFault s r
+    element-fault f = let g = f .2 .1 in same-element (f .0) (g .0) (g .2 .1 .0) (g .2 .1 .1) e (f .1) (f .2 .0) (g .1) (g .2 .0) (g .2 .1 .2)
+
+    module _ (no-element : ¬ Somewhere s (Suits s (RefMeeting (childB s r))) (childA s r)) where
+      text-sides : InterleaveFault s r → Somewhere s (Suits s Text) (childA s r) × Somewhere s (Suits s Text) (childB s r)
+      text-sides (same-element x y u l k o kx o′ ky c) = absurd (no-element (x, o, (kx, (y, o′, (ky, (u, l, c))))))
+      text-sides (text-twice x y k o kx o′ ky) = ((x, o, kx), (y, o′, ky))
+
+      pub text-decides : Somewhere s (Suits s Text) (childA s r) → (x : Bool) → Decides (Somewhere s (Suits s Text) (childB s r)) x → Decides (InterleaveFault s r) x
+      text-decides f x = decides-same x (λ g. text-twice (f .0) (g .0) e (f .1) (f .2) (g .1) (g .2)) (λ h. text-sides h .1)
+
+      pub no-text-fault : ¬ Somewhere s (Suits s Text) (childA s r) → ¬ InterleaveFault s r
+      no-text-fault n h = n (text-sides h .0)
+
+-- faults are at rows of the table
+pub attribute-row : {s : List ℕ} {r : ℕ} → SizeRight s → AttributeFault s r → r < rowsOf s
+attribute-row w (duplicate x y u l q o k o′ k′ c) = in-table w (λ z. false≢true (sym (ap isPair z) ∙ q))
+attribute-row w (not-repeated k i n) = in-table w (λ z. omega (arith, k, z))
+
+pub interleave-row : {s : List ℕ} {r : ℕ} → SizeRight s → InterleaveFault s r → r < rowsOf s
+interleave-row w (same-element x y u l k o kx o′ ky c) = in-table w (λ z. omega (arith, k, z))
+interleave-row w (text-twice x y k o kx o′ ky) = in-table w (λ z. omega (arith, k, z))

@@ -1,0 +1,4 @@
+pub mod Clashes
+pub mod Descent
+pub mod Infinity
+pub mod Occurring

@@ -1,0 +1,59 @@
+-- A pair is at fault by two attributes that share a name, an attribute by an infinite class outside of a oneOrMore.
+use mathlib.Core.Path.{sym, _∙_}
+use borrow.Author.Needs.{needs}
+use Rattle.occurrences.proofs.Clashes.{pair-decides, no-attribute-fault, repeated-right, infinite-decides}
+use Rattle.occurrences.proofs.attribute_fault.Statement.{statement}
+use Rattle.occurrences.proofs.attribute_fault.Tie as tie
+
+kind-requires : tie.Need-kind-requires
+kind-requires c κs = search needs
+
+is-pair-requires : tie.Need-is-pair-requires
+is-pair-requires c κs = search needs
+
+child-b-requires : tie.Need-child-b-requires
+child-b-requires c κs = search needs
+
+child-a-requires : tie.Need-child-a-requires
+child-a-requires c κs = search needs
+
+occurs-requires : tie.Need-occurs-requires
+occurs-requires c κs = search needs
+
+returns : tie.Need-returns
+returns c = pair-decides (c .before .before .before .before .before .before .before .before .args .schema .now) (c .before .before .before .before .before .before .before .before .args .r) (rw (← c .before .before .before .before .before .kind .ensures) (sym (c .before .before .before .before .is-pair .ensures) ∙ c .before .before .before .if1 .taken)) (c .occurs .result) (rw (c .before .before .child-b .ensures, c .before .child-a .ensures) at (c .occurs .ensures))
+
+returns-2 : tie.Need-returns-2
+returns-2 c = no-attribute-fault (c .before .before .before .before .before .before .args .schema .now) (c .before .before .before .before .before .before .args .r) (rw (← c .before .before .before .kind .ensures) (sym (c .before .before .is-pair .ensures) ∙ c .before .if1 .left)) (λ e. c .if2 .taken (c .before .before .before .kind .ensures ∙ e))
+
+word-requires : tie.Need-word-requires
+word-requires c κs = search needs
+
+returns-3 : tie.Need-returns-3
+returns-3 c = repeated-right (c .before .before .before .before .before .before .before .before .args .schema .now) (c .before .before .before .before .before .before .before .before .args .r) (c .before .before .before .before .before .before .before .before .pre .1) (sym (c .before .before .before .before .before .kind .ensures) ∙ c .before .before .if2 .left) (sym (c .before .word .ensures) ∙ c .if3 .taken)
+
+child-a-requires-2 : tie.Need-child-a-requires-2
+child-a-requires-2 c κs = search needs
+
+infinite-requires : tie.Need-infinite-requires
+infinite-requires c κs = search needs
+
+returns-4 : tie.Need-returns-4
+returns-4 c = infinite-decides (c .before .before .before .before .before .before .before .before .before .before .args .schema .now) (c .before .before .before .before .before .before .before .before .before .before .args .r) (c .before .before .before .before .before .before .before .before .before .before .pre .1) (sym (c .before .before .before .before .before .before .before .kind .ensures) ∙ c .before .before .before .before .if2 .left) (λ m. c .before .before .if3 .left (c .before .before .before .word .ensures ∙ m)) (c .infinite .result) (rw (c .before .child-a2 .ensures) at (c .infinite .ensures))
+
+pub attribute-fault-spec : {M : Type 1} → statement M
+attribute-fault-spec =
+    tie.close
+    (tie.spec
+    kind-requires
+    is-pair-requires
+    child-b-requires
+    child-a-requires
+    occurs-requires
+    returns
+    returns-2
+    word-requires
+    returns-3
+    child-a-requires-2
+    infinite-requires
+    returns-4)

@@ -1,0 +1,24 @@
+-- There is a least name in common exactly when there is one.
+use borrow.Author.Needs.{needs}
+use Rattle.occurrences.proofs.Occurring.{shared-yes, shared-no}
+use Rattle.occurrences.proofs.share_name.Statement.{statement}
+use Rattle.occurrences.proofs.share_name.Tie as tie
+
+least-common-requires : tie.Need-least-common-requires
+least-common-requires c κs = search needs
+
+enum-told : tie.Need-enum-told
+enum-told c = search needs
+
+enum-told-2 : tie.Need-enum-told-2
+enum-told-2 c = search needs
+
+returns : tie.Need-returns
+returns c = shared-yes (c .before .before .least-common .ensures) (c .before .before .before .before .pre) (c .enum-told .given .1)
+
+returns-2 : tie.Need-returns-2
+returns-2 c = shared-no (c .before .before .least-common .ensures) (c .before .before .before .before .pre) (c .enum-told2 .given .1)
+
+pub share-name-spec : {M : Type 1} → statement M
+share-name-spec =
+    tie.close (tie.spec least-common-requires enum-told enum-told-2 returns returns-2)

@@ -1,0 +1,42 @@
+-- What is looked for among the patterns that occur in a pattern; cited by private functions only.
+use Prim.Native.Nat.{ℕ}
+use mathlib.Core.Path.{_≡_}
+use mathlib.Core.List.{List}
+use Rattle.schema.specs.Kinds as kind
+use Rattle.schema.specs.Rows.{kindOf, childA}
+use Rattle.schema.specs.Relations.{Occurs}
+use Rattle.classes.specs.Least.{Common}
+use Rattle.occurrences.specs.Interleaves.{classReferred}
+use Rattle.occurrences.specs.declared.Wanted.{Wanted}
+use Rattle.occurrences.specs.declared.Wanted.the-variants.{Text, AttributeSharing, RefSharing, AttributeMeeting, RefMeeting}
+
+-- a pattern with P occurs in p
+abbrev pub Somewhere : List ℕ → (ℕ → Type 0) → ℕ → Type 0
+Somewhere s P p = (x : ℕ) × Occurs s x p × P x
+
+-- the classes at rows c and d have a name in common
+abbrev pub Shared : List ℕ → ℕ → ℕ → Type 0
+Shared s c d = (u : ℕ) × (l : ℕ) × Common s c d u l
+
+-- an attribute, or a ref to an element, that shares a name with the class at row c
+abbrev pub SharingAttribute : List ℕ → ℕ → ℕ → Type 0
+SharingAttribute s c x = (kindOf s x ≡ kind.attribute) × Shared s c (childA s x)
+
+abbrev pub SharingRef : List ℕ → ℕ → ℕ → Type 0
+SharingRef s c x = (kindOf s x ≡ kind.ref) × Shared s c (classReferred s x)
+
+-- row x is what is wanted: text; an attribute or ref that shares a name with a class; one that shares a name with one that occurs in a pattern
+abbrev pub Suits : List ℕ → Wanted → ℕ → Type 0
+Suits s Text x = kindOf s x ≡ kind.text
+Suits s (AttributeSharing c) x = SharingAttribute s c x
+Suits s (RefSharing c) x = SharingRef s c x
+Suits s (AttributeMeeting q) x = (kindOf s x ≡ kind.attribute) × Somewhere s (SharingAttribute s (childA s x)) q
+Suits s (RefMeeting q) x = (kindOf s x ≡ kind.ref) × Somewhere s (SharingRef s (classReferred s x)) q
+
+-- how many searches in patterns are left
+abbrev pub rank : Wanted → ℕ
+rank Text = 0
+rank (AttributeSharing c) = 0
+rank (RefSharing c) = 0
+rank (AttributeMeeting q) = 1
+rank (RefMeeting q) = 1

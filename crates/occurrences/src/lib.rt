@@ -1,0 +1,245 @@
+// The restrictions of clauses 10.4 and 10.5 on attributes and interleave, by what occurs in a pattern: codes 7 and 8.
+use classes::Found;
+use tables::Checked;
+ghost use mathlib.Core.Path.{_≡_};
+ghost use Prim.Native.Nat.{_<_};
+ghost use Rattle.tables.specs.Answers.{Finds, Decides};
+ghost use Rattle.schema.specs.Kinds.{oneOrMore};
+ghost use Rattle.schema.specs.Rows.{rowsOf};
+ghost use Rattle.schema.specs.RowRule.{SizeRight};
+ghost use Rattle.places.specs.Marks.{Marks, Under};
+ghost use Rattle.places.specs.Sources.{HasKind};
+ghost use Rattle.occurrences.specs.Attributes.{Infinite, AttributeFault};
+ghost use Rattle.occurrences.specs.Interleaves.{classReferred, InterleaveFault};
+ghost use Rattle.occurrences.specs.Occurrences.{Somewhere, Shared, Suits};
+
+// Whether the class at a row has anyName or nsName in it.
+fn infinite(schema: &[u32], class: u32) -> bool
+    ensures { λ r. ⌜ Decides (Infinite (now (schema .entry)) class) r ⌝ }
+{
+    let kind = schema::kind(schema, class);
+    if kind == 16 {
+        return true;
+    }
+    if kind == 17 {
+        return true;
+    }
+    if infinite_child(schema, class, schema::child_a(schema, class)) {
+        return true;
+    }
+    infinite_child(schema, class, schema::child_b(schema, class))
+}
+
+// Whether a child of a row, a smaller one, has anyName or nsName in it.
+fn infinite_child(schema: &[u32], parent: u32, child: u32) -> bool
+    ensures { λ r. ⌜ Decides ((child < parent) × Infinite (now (schema .entry)) child) r ⌝ }
+{
+    if child < parent {
+        infinite(schema, child)
+    } else {
+        false
+    }
+}
+
+// What is looked for in a pattern: text; an attribute, or a ref to an element, that shares a name with a class; one that shares a name with one in another pattern.
+enum Wanted {
+    Text,
+    AttributeSharing(u32),
+    RefSharing(u32),
+    AttributeMeeting(u32),
+    RefMeeting(u32),
+}
+
+// Whether two classes have a name in common.
+fn share_name(schema: &[u32], first: u32, second: u32) -> bool
+    requires { ⌜ SizeRight (now schema) ⌝ }
+    ensures { λ r. ⌜ Decides (Shared (now (schema .entry)) first second) r ⌝ }
+{
+    let found = classes::least_common(schema, first, second);
+    match found {
+        Found::Name(_, _) => true,
+        Found::Nothing => false,
+    }
+}
+
+// Whether row x is what is wanted.
+fn suits(schema: &[u32], wanted: Wanted, x: u32) -> bool
+    requires { ⌜ SizeRight (now schema) ⌝ }
+    ensures { λ r. ⌜ Decides (Suits (now (schema .entry)) wanted x) r ⌝ }
+{
+    let kind = schema::kind(schema, x);
+    match wanted {
+        Wanted::Text => kind == 3,
+        Wanted::AttributeSharing(class) => {
+            if kind == 7 {
+                share_name(schema, class, schema::child_a(schema, x))
+            } else {
+                false
+            }
+        }
+        Wanted::RefSharing(class) => {
+            if kind == 8 {
+                share_name(schema, class, class_referred(schema, x))
+            } else {
+                false
+            }
+        }
+        Wanted::AttributeMeeting(q) => {
+            if kind == 7 {
+                occurs(
+                    schema,
+                    Wanted::AttributeSharing(schema::child_a(schema, x)),
+                    q,
+                )
+            } else {
+                false
+            }
+        }
+        Wanted::RefMeeting(q) => {
+            if kind == 8 {
+                occurs(schema, Wanted::RefSharing(class_referred(schema, x)), q)
+            } else {
+                false
+            }
+        }
+    }
+}
+
+// The name class of the element that the ref at row x refers to.
+fn class_referred(schema: &[u32], x: u32) -> u32
+    ensures { λ r. ⌜ r ≡ classReferred (now (schema .entry)) x ⌝ }
+{
+    schema::child_a(schema, schema::field_a(schema, x))
+}
+
+// Whether what is wanted occurs in the pattern at a row.
+fn occurs(schema: &[u32], wanted: Wanted, p: u32) -> bool
+    requires { ⌜ SizeRight (now schema) ⌝ }
+    ensures { λ r. ⌜ Decides (Somewhere (now (schema .entry)) (Suits (now (schema .entry)) wanted) p) r ⌝ }
+{
+    if suits(schema, wanted, p) {
+        return true;
+    }
+    let kind = schema::kind(schema, p);
+    if kind < 9 {
+        return false;
+    }
+    if 12 < kind {
+        return false;
+    }
+    if occurs_child(schema, wanted, p, schema::child_a(schema, p)) {
+        return true;
+    }
+    occurs_child(schema, wanted, p, schema::child_b(schema, p))
+}
+
+// Whether what is wanted occurs in a child of a row, a smaller one.
+fn occurs_child(schema: &[u32], wanted: Wanted, parent: u32, child: u32) -> bool
+    requires { ⌜ SizeRight (now schema) ⌝ }
+    ensures { λ r. ⌜ Decides ((child < parent) × Somewhere (now (schema .entry)) (Suits (now (schema .entry)) wanted) child) r ⌝ }
+{
+    if child < parent {
+        occurs(schema, wanted, child)
+    } else {
+        false
+    }
+}
+
+// Whether row r breaks a restriction on attributes, with a table of the rows below a oneOrMore.
+fn attribute_fault(schema: &[u32], repeated: &[u32], r: u32) -> bool
+    requires { ⌜ SizeRight (now schema) × Marks (Under (now schema) (HasKind (now schema) oneOrMore)) (now repeated) × (r < rowsOf (now schema)) ⌝ }
+    ensures { λ fault. ⌜ Decides (AttributeFault (now (schema .entry)) r) fault ⌝ }
+{
+    let kind = schema::kind(schema, r);
+    if places::is_pair(kind) {
+        return occurs(
+            schema,
+            Wanted::AttributeMeeting(schema::child_b(schema, r)),
+            schema::child_a(schema, r),
+        );
+    }
+    if kind != 7 {
+        return false;
+    }
+    if tables::word(repeated, r as usize) == 1 {
+        return false;
+    }
+    infinite(schema, schema::child_a(schema, r))
+}
+
+// Whether row r breaks a restriction on interleave.
+fn interleave_fault(schema: &[u32], r: u32) -> bool
+    requires { ⌜ SizeRight (now schema) ⌝ }
+    ensures { λ fault. ⌜ Decides (InterleaveFault (now (schema .entry)) r) fault ⌝ }
+{
+    let kind = schema::kind(schema, r);
+    if kind != 12 {
+        return false;
+    }
+    let a = schema::child_a(schema, r);
+    let b = schema::child_b(schema, r);
+    if occurs(schema, Wanted::RefMeeting(b), a) {
+        return true;
+    }
+    if occurs(schema, Wanted::Text, a) {
+        occurs(schema, Wanted::Text, b)
+    } else {
+        false
+    }
+}
+
+// The first row that breaks a restriction on attributes, with a table of the rows below a oneOrMore.
+fn first_attribute(schema: &[u32], repeated: &[u32]) -> Checked
+    requires { ⌜ SizeRight (now schema) × Marks (Under (now schema) (HasKind (now schema) oneOrMore)) (now repeated) ⌝ }
+    ensures { λ r. ⌜ Finds (AttributeFault (now (schema .entry))) r ⌝ }
+{
+    let rows = schema.len() / 3;
+    let mut r = 0;
+    while r < rows {
+        if attribute_fault(schema, repeated, r as u32) {
+            return Checked::Fault(r as u32);
+        }
+        r += 1;
+    }
+    Checked::Fine
+}
+
+// Code 7: the first row that breaks a restriction on attributes.
+pub fn check_attributes(schema: &[u32]) -> Checked
+    ensures { λ r. ⌜ (SizeRight (now (schema .entry)) → Finds (AttributeFault (now (schema .entry))) r) ⌝ }
+{
+    let size = rows::check_size(schema);
+    let Checked::Fine = size else {
+        return size;
+    };
+    let mut repeated = [0u32; 512];
+    places::mark_repeated(schema, &mut repeated);
+    first_attribute(schema, &repeated)
+}
+
+// The first interleave that breaks a restriction on interleave.
+fn first_interleave(schema: &[u32]) -> Checked
+    requires { ⌜ SizeRight (now schema) ⌝ }
+    ensures { λ r. ⌜ Finds (InterleaveFault (now (schema .entry))) r ⌝ }
+{
+    let rows = schema.len() / 3;
+    let mut r = 0;
+    while r < rows {
+        if interleave_fault(schema, r as u32) {
+            return Checked::Fault(r as u32);
+        }
+        r += 1;
+    }
+    Checked::Fine
+}
+
+// Code 8: the first interleave that breaks a restriction on interleave.
+pub fn check_interleaves(schema: &[u32]) -> Checked
+    ensures { λ r. ⌜ (SizeRight (now (schema .entry)) → Finds (InterleaveFault (now (schema .entry))) r) ⌝ }
+{
+    let size = rows::check_size(schema);
+    let Checked::Fine = size else {
+        return size;
+    };
+    first_interleave(schema)
+}
