@@ -5,8 +5,8 @@ use Rattle.relaxng.proofs.instance_verdict.Statement.{statement}
 use Rattle.relaxng.proofs.instance_verdict.Tie as tie
 use Rattle.relaxng.proofs.instance_verdict.Reads as reads
 use Rattle.relaxng.proofs.instance_verdict.Lts as lts
-use Rattle.instance.proofs.check_nodes.Reads as check-nodes-reads
-use Rattle.instance.proofs.check_width.Reads as check-width-reads
+use Rattle.nodes.proofs.check_nodes.Reads as check-nodes-reads
+use Rattle.width.proofs.check_width.Reads as check-width-reads
 use Rattle.relaxng.proofs.schema_verdict.Reads as schema-verdict-reads
 use Rattle.tables.proofs.refusal.Reads as refusal-reads
 

@@ -9,7 +9,7 @@ use Rattle.report.proofs.answer.Reads as reads
 use Rattle.report.proofs.answer.Lts as lts
 use Rattle.relaxng.proofs.match_list.Reads as match-list-reads
 use Rattle.report.proofs.write_pairs.Reads as write-pairs-reads
-use Rattle.writer.proofs.write_refusal.Reads as write-refusal-reads
+use Rattle.texts.proofs.write_refusal.Reads as write-refusal-reads
 
 -- src/lib.rt:24:70
 slice-aggregate-match-list : tie.Need-slice-aggregate-match-list

@@ -10,7 +10,7 @@ use Rattle.report.proofs.report.Reads as reads
 use Rattle.report.proofs.report.Lts as lts
 use Rattle.reader.proofs.read_job.Reads as read-job-reads
 use Rattle.report.proofs.answer.Reads as answer-reads
-use Rattle.writer.proofs.write_refusal.Reads as write-refusal-reads
+use Rattle.texts.proofs.write_refusal.Reads as write-refusal-reads
 
 -- src/lib.rt:40:38
 slice-aggregate-read-job : tie.Need-slice-aggregate-read-job
