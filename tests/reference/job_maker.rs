@@ -1,6 +1,7 @@
 // Makes jobs at random: a schema that passes, and a document that is made from it, near it or unlike it.
 
 use super::maker::{grow, read, rows_of, Rng, Row};
+use super::reference::brute::is_small;
 use super::reference::instance::{self, Node};
 use super::reference::job::Job;
 use super::reference::matching::Tables;
@@ -18,11 +19,13 @@ enum Item {
     Element(u32),
 }
 
-pub struct Limits {
-    pub rows: usize,
-    pub depth: usize,
-    pub repeats: usize,
+struct Limits {
+    rows: usize,
+    depth: usize,
+    repeats: usize,
 }
+const SMALL: Limits = Limits { rows: 14, depth: 3, repeats: 3 };
+const LARGE: Limits = Limits { rows: 1000, depth: 6, repeats: 63 };
 
 /// Makes a document along a schema.
 struct Along<'a> {
@@ -152,7 +155,7 @@ impl Along<'_> {
 }
 
 /// A schema that passes, with strings of its own.
-pub fn schema(r: &Rng) -> Job {
+fn schema(r: &Rng) -> Job {
     loop {
         let input = grow(r);
         let mut texts = TEXTS.to_vec();
@@ -187,7 +190,7 @@ fn content(r: &Rng, depth: usize) -> String {
 }
 
 /// A schema of one definition with much content over three small ones, two of which share a name.
-pub fn one_content(r: &Rng) -> Job {
+fn one_content(r: &Rng) -> Job {
     loop {
         let small = "element 0:2 empty element 0:3 | empty $1 element / 0:2 0:1 text";
         let (schema, _) = read(&format!("element 0:1 {} {small} start $0", content(r, 4)));
@@ -201,7 +204,7 @@ pub fn one_content(r: &Rng) -> Job {
 }
 
 /// An element with any attributes and children of the names above.
-pub fn one_element(r: &Rng) -> Vec<u32> {
+fn one_element(r: &Rng) -> Vec<u32> {
     let mut words = vec![1, NONE, 0, 1, 0];
     for local in 1..=3 {
         if r.below(4) == 0 {
@@ -220,7 +223,7 @@ pub fn one_element(r: &Rng) -> Vec<u32> {
 }
 
 /// A document along a definition that start names, or along any if it names none; and that definition.
-pub fn along(r: &Rng, job: &Job, limits: &Limits) -> Option<(Vec<u32>, u32)> {
+fn along(r: &Rng, job: &Job, limits: &Limits) -> Option<(Vec<u32>, u32)> {
     let tables = Tables::of(job);
     let mut refs = vec![];
     let mut open = vec![tables.schema.len() as u32 - 1];
@@ -240,7 +243,7 @@ pub fn along(r: &Rng, job: &Job, limits: &Limits) -> Option<(Vec<u32>, u32)> {
 }
 
 /// A document that has nothing of the schema but its strings.
-pub fn unlike(r: &Rng, strings: usize, rows: usize) -> Vec<u32> {
+fn unlike(r: &Rng, strings: usize, rows: usize) -> Vec<u32> {
     let mut words = vec![1, NONE, r.below(2.min(strings)) as u32, 1 + r.below(strings - 1) as u32, 0];
     for row in 1..1 + r.below(rows) {
         let (parent, a) = (r.below(row) as u32, r.below(strings) as u32);
@@ -268,6 +271,36 @@ pub fn damage(r: &Rng, strings: usize, words: &mut Vec<u32>) {
 }
 
 /// Whether some data has an except.
-pub fn has_except(job: &Job) -> bool {
+fn has_except(job: &Job) -> bool {
     rows_of(&job.schema).iter().any(|row: &Row| row[0] == 4 && row[2] != NONE)
+}
+
+/// A schema with a small document: along it, along it and damaged, or unlike it.
+pub fn small_job(r: &Rng, sort: usize) -> Option<Job> {
+    let one = r.below(2) == 0;
+    let mut job = if one { one_content(r) } else { schema(r) };
+    let strings = job.strings.len();
+    job.instance = match sort {
+        0 if one => one_element(r),
+        0 => unlike(r, strings, 12),
+        _ => along(r, &job, &SMALL)?.0,
+    };
+    for _ in 0..[0, 0, 1, 2][sort] {
+        damage(r, strings, &mut job.instance);
+    }
+    let few = job.instance.len() < 5 * 4 && r.below(20) > 0;
+    (!few && instance::fault(strings, &job.instance).is_none() && is_small(&job)).then_some(job)
+}
+
+/// A schema with a document along one of its definitions, which is given too, of 16 rows or more.
+pub fn large_job(r: &Rng) -> (Job, u32) {
+    loop {
+        let mut job = schema(r);
+        let Some((instance, definition)) = along(r, &job, &LARGE) else { continue };
+        let wrong = instance::fault(job.strings.len(), &instance).is_some();
+        if !has_except(&job) && !wrong && instance.len() >= 5 * 16 {
+            job.instance = instance;
+            return (job, definition);
+        }
+    }
 }

@@ -1,8 +1,8 @@
 -- The entries of a row from those of the rows below it.
 use Prim.Native.Nat.{ℕ, zero, suc, _<_}
-use mathlib.Core.Path.{_≡_, refl, sym, _∙_, ap}
+use mathlib.Core.Path.{_≡_, refl, sym, _∙_, ap, ap₂}
 use mathlib.Core.List.{List, [], _∷_, nil≢cons, cons≢nil}
-use mathlib.Core.Logic.{_⊎_, inl, inr, ⊎-map, _↔_, _≢_, Iff·trans, Iff·symm}
+use mathlib.Core.Logic.{_⊎_, inl, ⊎-map, ⊎-elim, _↔_, _≢_, Iff·trans, Iff·symm}
 use native.Mathlib.Decide.{ℕ-discrete}
 use native.Mathlib.Omega.{arith}
 use borrow.Author.Tests.{eq-eqb, ne-eqb}
@@ -14,7 +14,7 @@ use Rattle.schema.specs.Rows.{kindOf, aOf, bOf}
 use Rattle.schema.specs.Views.{Pattern, patternBy, patternOf}
 use Rattle.schema.specs.Views as pattern
 use Rattle.restrictions.proofs.Passes.{SchemaPasses}
-use Rattle.rules.specs.Items.{Item, string, none, Lookups}
+use Rattle.rules.specs.Items.{string, none, Lookups}
 use Rattle.rules.specs.Rules.{Match, NotMatchBy, text-1, empty, text-2}
 use Rattle.rules.specs.Job.{lookups, datatypeEqual}
 use Rattle.rules.proofs.Inversion.{One, stepwise}
@@ -22,9 +22,9 @@ use Rattle.rules.proofs.Passing.{restricted}
 use Rattle.rules.proofs.Reach.{Part, operand, repeated, choice-first, choice-second, group-first, group-second, interleave-first, interleave-second, of-except}
 use Rattle.rules.proofs.RowPatterns.{Makes, makes-empty, makes-notAllowed, makes-text, makes-data, makes-except, makes-value, makes-attribute, makes-ref, makes-oneOrMore, makes-choice, makes-group, makes-interleave, makes-none, row-makes}
 use Rattle.rules.proofs.Strata.{not-match}
-use Rattle.alone.specs.Alone.{entry, TellsString, TellsNothing, Alone}
-use Rattle.alone.specs.Rows.{OneOf, DataEntry, NothingAt, StringAt}
-use Rattle.alone.proofs.Short.{Lone, Null, Either, null-group, null-interleave, lone-group, lone-interleave, null-oneOrMore, lone-oneOrMore, null-choice, lone-choice, not-none, no-element, some-element}
+use Rattle.alone.specs.Alone.{entry, TellsString, Alone}
+use Rattle.alone.specs.Rows.{EitherOf, DataEntry, OneSide, OneOf, EqualTo, SameRow, NothingAt, StringAt}
+use Rattle.alone.proofs.Short.{Either, null-group, null-interleave, lone-group, lone-interleave, null-oneOrMore, lone-oneOrMore, null-choice, lone-choice, not-none, no-element, some-element}
 
 or-iff : {A B C D : Type 0} → A ↔ C → B ↔ D → (A ⊎ B) ↔ (C ⊎ D)
 or-iff f g = (⊎-map (f .0) (g .0), ⊎-map (f .1) (g .1))
@@ -32,7 +32,10 @@ or-iff f g = (⊎-map (f .0) (g .0), ⊎-map (f .1) (g .1))
 and-iff : {A B C D : Type 0} → A ↔ C → B ↔ D → (A × B) ↔ (C × D)
 and-iff f g = (λ x. (f .0 (x .0), g .0 (x .1)), λ x. (f .1 (x .0), g .1 (x .1)))
 
-not-one : ¬ (_≡_ {A = ℕ} 0 1)
+pub one-iff : {A : Type 0} → (A ⊎ A) ↔ A
+one-iff = (λ x. ⊎-elim (λ a. a) (λ a. a) x, inl)
+
+pub not-one : ¬ (_≡_ {A = ℕ} 0 1)
 not-one e = omega arith
 
 -- the patterns of rows by their kinds
@@ -41,15 +44,15 @@ module _ (s : List ℕ) (p : ℕ) where
   unfolding patternBy
   is-empty e = rw e
 
-  is-text : kindOf s p ≡ kind.text → patternOf s p ≡ pattern.text
+  pub is-text : kindOf s p ≡ kind.text → patternOf s p ≡ pattern.text
   unfolding patternBy
   is-text e = rw e
 
-  is-data : kindOf s p ≡ kind.«data» → bOf s p ≡ kind.none → patternOf s p ≡ pattern.dataAll (aOf s p)
+  pub is-data : kindOf s p ≡ kind.«data» → bOf s p ≡ kind.none → patternOf s p ≡ pattern.dataAll (aOf s p)
   unfolding patternBy
   is-data e f = rw (e, eq-eqb (bOf s p) kind.none f)
 
-  is-except : kindOf s p ≡ kind.«data» → bOf s p ≢ kind.none → patternOf s p ≡ pattern.dataExcept (aOf s p) (bOf s p)
+  pub is-except : kindOf s p ≡ kind.«data» → bOf s p ≢ kind.none → patternOf s p ≡ pattern.dataExcept (aOf s p) (bOf s p)
   unfolding patternBy
   is-except e f = rw (e, ne-eqb (bOf s p) kind.none f)
 
@@ -57,19 +60,19 @@ module _ (s : List ℕ) (p : ℕ) where
   unfolding patternBy
   is-value e = rw e
 
-  is-oneOrMore : kindOf s p ≡ kind.oneOrMore → patternOf s p ≡ pattern.oneOrMore (aOf s p)
+  pub is-oneOrMore : kindOf s p ≡ kind.oneOrMore → patternOf s p ≡ pattern.oneOrMore (aOf s p)
   unfolding patternBy
   is-oneOrMore e = rw e
 
-  is-choice : kindOf s p ≡ kind.choice → patternOf s p ≡ pattern.choice (aOf s p) (bOf s p)
+  pub is-choice : kindOf s p ≡ kind.choice → patternOf s p ≡ pattern.choice (aOf s p) (bOf s p)
   unfolding patternBy
   is-choice e = rw e
 
-  is-group : kindOf s p ≡ kind.group → patternOf s p ≡ pattern.group (aOf s p) (bOf s p)
+  pub is-group : kindOf s p ≡ kind.group → patternOf s p ≡ pattern.group (aOf s p) (bOf s p)
   unfolding patternBy
   is-group e = rw e
 
-  is-interleave : kindOf s p ≡ kind.interleave → patternOf s p ≡ pattern.interleave (aOf s p) (bOf s p)
+  pub is-interleave : kindOf s p ≡ kind.interleave → patternOf s p ≡ pattern.interleave (aOf s p) (bOf s p)
   unfolding patternBy
   is-interleave e = rw e
 
@@ -119,11 +122,12 @@ module _ (bytes ends s t : List ℕ) where
   no-lone p r f v (makes-interleave e) d = r .no-interleave e
   no-lone p r f v (makes-none e) d = stepwise L N pattern.noPattern .0 d
 
--- the empty sequence
+-- a part of a pattern comes before it
 module _ (s : List ℕ) (p : ℕ) where
-  falls : (bytes ends t : List ℕ) → SchemaPasses (length ends) s → {q : ℕ} {x : Pattern} → patternOf s p ≡ x → Part q x → q < p
+  pub falls : (bytes ends t : List ℕ) → SchemaPasses (length ends) s → {q : ℕ} {x : Pattern} → patternOf s p ≡ x → Part q x → q < p
   falls bytes ends t c {q} e h = restricted c bytes ends t .falls p q (rw e h)
 
+-- the empty sequence
 module _ (s nothing : List ℕ) (p : ℕ) {v : ℕ} where
   pub nothing-empty : kindOf s p ≡ kind.empty → v ≡ 1 → NothingAt s nothing p v
   nothing-empty e f bytes ends t alone c b = (λ x. rw (is-empty s p e) empty, λ x. f)
@@ -161,7 +165,7 @@ one-denied : {w : List ℕ} {P : List ℕ → Type 0} → One P (string w ∷ []
 one-denied o h = h (one-string o)
 
 -- the string goes to one side of a group or interleave
-sides : (bytes ends s alone nothing : List ℕ) (p k : ℕ) (t : List ℕ) → Alone bytes ends s alone nothing p → aOf s p < p → bOf s p < p → k < length ends → OneOf alone nothing (aOf s p) (bOf s p) k ↔ Either (L bytes ends s t) (N bytes ends s t) (aOf s p) (bOf s p) (textOf bytes ends k)
+sides : (bytes ends s alone nothing : List ℕ) (p k : ℕ) (t : List ℕ) → Alone bytes ends s alone nothing p → aOf s p < p → bOf s p < p → k < length ends → OneSide alone nothing (aOf s p) (bOf s p) k ↔ Either (L bytes ends s t) (N bytes ends s t) (aOf s p) (bOf s p) (textOf bytes ends k)
 sides bytes ends s alone nothing p k t b l r h = or-iff (and-iff (b .strings t (aOf s p) k l h) (b .empty t (bOf s p) r)) (and-iff (b .empty t (aOf s p) l) (b .strings t (bOf s p) k r h))
 
 -- one string
@@ -169,7 +173,7 @@ module _ (bytes ends s alone nothing : List ℕ) (p k : ℕ) {v : ℕ} where
   pub string-text : kindOf s p ≡ kind.text → v ≡ 1 → StringAt bytes ends s alone nothing p k v
   string-text e f t c b h = (λ x. rw (is-text s p e) (text-2 (textOf bytes ends k) text-1), λ x. f)
 
-  pub string-data : kindOf s p ≡ kind.«data» → DataEntry s alone p k v → StringAt bytes ends s alone nothing p k v
+  pub string-data : kindOf s p ≡ kind.«data» → DataEntry alone (bOf s p) k v → StringAt bytes ends s alone nothing p k v
   string-data e f t c b h = elim (ℕ-discrete (bOf s p) kind.none) [ yes z ↦ all z | no z ↦ except z ]
     where
       all : bOf s p ≡ kind.none → TellsString bytes ends s t p k v
@@ -181,49 +185,44 @@ module _ (bytes ends s alone nothing : List ℕ) (p k : ℕ) {v : ℕ} where
           let R = restricted c bytes ends t in
           let n = not-match R p (aOf s p) (bOf s p) x (textOf bytes ends k) in
           let l = b .strings t (bOf s p) k (falls s p bytes ends t c x of-except) h in (
-            λ y. rw x (stepwise (L bytes ends s t) (N bytes ends s t) (pattern.dataExcept (aOf s p) (bOf s p)) .1 (refl, (textOf bytes ends k, refl, n .1 (λ d. f .except z .0 y (l .1 d))))),
-            λ d. f .except z .1 (λ y. one-denied (stepwise (L bytes ends s t) (N bytes ends s t) (pattern.dataExcept (aOf s p) (bOf s p)) .0 (rw x at d) .1) (λ q. n .0 q (l .0 y))),
+            λ y. rw x (stepwise (L bytes ends s t) (N bytes ends s t) (pattern.dataExcept (aOf s p) (bOf s p)) .1 (refl, (textOf bytes ends k, refl, n .1 (λ d. f .but z .0 y (l .1 d))))),
+            λ d. f .but z .1 (λ y. one-denied (stepwise (L bytes ends s t) (N bytes ends s t) (pattern.dataExcept (aOf s p) (bOf s p)) .0 (rw x at d) .1) (λ q. n .0 q (l .0 y))),
           )
 
-  pub string-value : kindOf s p ≡ kind.value → (v ≡ 1) ↔ datatypeEqual (aOf s p) (textOf bytes ends k) (textOf bytes ends (bOf s p)) → StringAt bytes ends s alone nothing p k v
+  pub string-value : kindOf s p ≡ kind.value → EqualTo bytes ends (aOf s p) (bOf s p) k v → StringAt bytes ends s alone nothing p k v
   string-value e f t c b h =
       let x = is-value s p e in
       let y = stepwise (L bytes ends s t) (N bytes ends s t) (pattern.value (aOf s p) (bOf s p)) in
       (λ z. rw x (y .1 (refl, (textOf bytes ends k, refl, f .0 z))), λ d. f .1 (one-string (y .0 (rw x at d) .1)))
 
-  pub string-oneOrMore : kindOf s p ≡ kind.oneOrMore → v ≡ entry alone (aOf s p) k → StringAt bytes ends s alone nothing p k v
+  -- a value has the entries of an earlier one with the same fields
+  pub string-same : {q : ℕ} → kindOf s p ≡ kind.value → SameRow s q p → EitherOf alone q q k v → StringAt bytes ends s alone nothing p k v
+  string-same {q} e r f t c b h =
+      let x : patternOf s p ≡ patternOf s q = is-value s p e ∙ ap₂ pattern.value (sym (r .same-datatype)) (sym (r .same-string)) ∙ sym (is-value s q (r .is-value)) in
+      rw x (Iff·trans f (Iff·trans one-iff (b .strings t q k (r .before) h)))
+
+  pub string-oneOrMore : kindOf s p ≡ kind.oneOrMore → EitherOf alone (aOf s p) (aOf s p) k v → StringAt bytes ends s alone nothing p k v
   string-oneOrMore e f t c b h =
       let x = is-oneOrMore s p e in
-      rw f (Iff·trans (b .strings t (aOf s p) k (falls s p bytes ends t c x (operand repeated)) h) (Iff·symm (lone-oneOrMore (L bytes ends s t) (N bytes ends s t) x)))
+      Iff·trans f (Iff·trans one-iff (Iff·trans (b .strings t (aOf s p) k (falls s p bytes ends t c x (operand repeated)) h) (Iff·symm (lone-oneOrMore (L bytes ends s t) (N bytes ends s t) x))))
 
-  pub string-choice : kindOf s p ≡ kind.choice → (v ≡ 1) ↔ ((entry alone (aOf s p) k ≡ 1) ⊎ (entry alone (bOf s p) k ≡ 1)) → StringAt bytes ends s alone nothing p k v
+  pub string-choice : kindOf s p ≡ kind.choice → EitherOf alone (aOf s p) (bOf s p) k v → StringAt bytes ends s alone nothing p k v
   string-choice e f t c b h =
       let x = is-choice s p e in
       Iff·trans f (Iff·trans (or-iff (b .strings t (aOf s p) k (falls s p bytes ends t c x (operand choice-first)) h) (b .strings t (bOf s p) k (falls s p bytes ends t c x (operand choice-second)) h)) (Iff·symm (lone-choice (L bytes ends s t) (N bytes ends s t) x)))
 
-  pub string-group : kindOf s p ≡ kind.group → (v ≡ 1) ↔ OneOf alone nothing (aOf s p) (bOf s p) k → StringAt bytes ends s alone nothing p k v
+  pub string-group : kindOf s p ≡ kind.group → OneOf alone nothing (aOf s p) (bOf s p) k v → StringAt bytes ends s alone nothing p k v
   string-group e f t c b h =
       let x = is-group s p e in
       Iff·trans f (Iff·trans (sides bytes ends s alone nothing p k t b (falls s p bytes ends t c x (operand group-first)) (falls s p bytes ends t c x (operand group-second)) h) (Iff·symm (lone-group (L bytes ends s t) (N bytes ends s t) p (aOf s p) (bOf s p) x)))
 
-  pub string-interleave : kindOf s p ≡ kind.interleave → (v ≡ 1) ↔ OneOf alone nothing (aOf s p) (bOf s p) k → StringAt bytes ends s alone nothing p k v
+  pub string-interleave : kindOf s p ≡ kind.interleave → OneOf alone nothing (aOf s p) (bOf s p) k v → StringAt bytes ends s alone nothing p k v
   string-interleave e f t c b h =
       let x = is-interleave s p e in
       Iff·trans f (Iff·trans (sides bytes ends s alone nothing p k t b (falls s p bytes ends t c x (operand interleave-first)) (falls s p bytes ends t c x (operand interleave-second)) h) (Iff·symm (lone-interleave (L bytes ends s t) (N bytes ends s t) p (aOf s p) (bOf s p) x)))
 
   pub string-rest : Rest s p → kindOf s p ≢ kind.«data» → kindOf s p ≢ kind.value → v ≡ 0 → StringAt bytes ends s alone nothing p k v
   string-rest r f g z t c b h = (λ e. absurd (not-one (sym z ∙ e)), λ d. absurd (no-lone bytes ends s t p r f g (row-makes s p refl) d))
-
--- the answers of the functions on single entries
-pub data-except : (s alone : List ℕ) (p k : ℕ) {b x v : ℕ} → b ≡ bOf s p → b ≢ kind.none → x ≡ entry alone b k → (v ≡ 1) ↔ ¬ (x ≡ 1) → DataEntry s alone p k v
-data-except s alone p k {b} {x} {v} e n f g = record {
-  all = λ z. absurd (n (e ∙ z));
-  except = λ z. rw (f ∙ ap (λ (q : ℕ). entry alone q k) e) at g;
-}
-
-pub one-of-iff : (alone nothing : List ℕ) (a b k : ℕ) {x y z w l r v : ℕ} → x ≡ entry alone a k → y ≡ getD nothing b 0 → z ≡ getD nothing a 0 → w ≡ entry alone b k
-    → (l ≡ 1) ↔ ((x ≡ 1) × (y ≡ 1)) → (r ≡ 1) ↔ ((z ≡ 1) × (w ≡ 1)) → (v ≡ 1) ↔ ((l ≡ 1) ⊎ (r ≡ 1)) → (v ≡ 1) ↔ OneOf alone nothing a b k
-one-of-iff alone nothing a b k e f g h p q o = Iff·trans o (or-iff (rw (e, f) at p) (rw (g, h) at q))
 
 -- equality by the number of the datatype
 pub by-string : (d : ℕ) (a b : List ℕ) → d ≡ 0 → (a ≡ b) ↔ datatypeEqual d a b

@@ -12,7 +12,7 @@ use Rattle.strings.specs.Strings.{textOf, maxStrings}
 use Rattle.datatypes.specs.Whitespace.{whitespace}
 use Rattle.restrictions.proofs.Passes.{SchemaPasses}
 use Rattle.alone.specs.Alone.{entry, TellsString, TellsNothing, Alone}
-use Rattle.alone.specs.Rows.{NothingAt, StringAt, RowFilled}
+use Rattle.alone.specs.Rows.{NothingAt, RowOf, RowMade}
 
 -- the rows below p are right in any table that has their entries
 alone-kept : {bytes ends s before now nothing : List ℕ} {p : ℕ} → length ends ≤ maxStrings → ((i : ℕ) → i < p * maxStrings → getD now i 0 ≡ getD before i 0) → Alone bytes ends s before nothing p → Alone bytes ends s now nothing p
@@ -21,28 +21,40 @@ alone-kept {bytes} {ends} {s} {before} {now} h f a = record {
   empty = a .empty;
 }
 
-pub row-none : {bytes ends s before : List ℕ} {p : ℕ} → RowFilled bytes ends s before before p 0
-row-none = record { size = refl; kept = λ i h. refl; right = λ t k h. absurd (omega arith) }
+module _ (f : ℕ → ℕ → Type 0) {before : List ℕ} {p : ℕ} where
+  pub row-none : RowOf f before before p 0
+  row-none = record { size = refl; kept = λ i h. refl; each = λ k h. absurd (omega arith) }
 
-pub row-more : {bytes ends s before now nothing : List ℕ} {p k v : ℕ} → length ends ≤ maxStrings → k < length ends → p * maxStrings + k < length now → SchemaPasses (length ends) s → Alone bytes ends s before nothing p
-    → StringAt bytes ends s now nothing p k v → RowFilled bytes ends s before now p k → RowFilled bytes ends s before (set now (p * maxStrings + k) v) p (k + 1)
-row-more {bytes} {ends} {s} {before} {now} {nothing} {p} {k} {v} h l i c a d r = record {
-  size = length-set now (p * maxStrings + k) v ∙ r .size;
-  kept = λ j m. getD-set-other now (p * maxStrings + k) j v 0 (λ e. omega arith) ∙ r .kept j m;
-  right = λ t. below-more (λ (j : ℕ). TellsString bytes ends s t p j (entry (set now (p * maxStrings + k) v) p j)) k
-      (λ j m. subst (λ (x : ℕ). TellsString bytes ends s t p j x) (sym (getD-set-other now (p * maxStrings + k) (p * maxStrings + j) v 0 (λ e. omega arith))) (r .right t j m))
-      (subst (λ (x : ℕ). TellsString bytes ends s t p k x) (sym (getD-set-same now (p * maxStrings + k) v 0 i)) (d t c (alone-kept h (r .kept) a) l));
-}
+  pub row-more : {now : List ℕ} {k v : ℕ} → p * maxStrings + k < length now → f k v → RowOf f before now p k → RowOf f before (set now (p * maxStrings + k) v) p (k + 1)
+  row-more {now} {k} {v} i d r = record {
+    size = length-set now (p * maxStrings + k) v ∙ r .size;
+    kept = λ j m. getD-set-other now (p * maxStrings + k) j v 0 (λ e. omega arith) ∙ r .kept j m;
+    each = below-more (λ (j : ℕ). f j (entry (set now (p * maxStrings + k) v) p j)) k
+        (λ j m. subst (λ (x : ℕ). f j x) (sym (getD-set-other now (p * maxStrings + k) (p * maxStrings + j) v 0 (λ e. omega arith))) (r .each j m))
+        (subst (λ (x : ℕ). f k x) (sym (getD-set-same now (p * maxStrings + k) v 0 i)) d);
+  }
+
+module _ {f : ℕ → ℕ → Type 0} {before : List ℕ} {p : ℕ} where
+  -- the rows before are read as they were
+  pub row-reads : {now : List ℕ} {n : ℕ} (a k : ℕ) → a < p → k < maxStrings → RowOf f before now p n → entry now a k ≡ entry before a k
+  row-reads a k h l r = r .kept (a * maxStrings + k) (omega arith)
+
+  pub row-map : {g : ℕ → ℕ → Type 0} {after : List ℕ} {n : ℕ} → ((k v : ℕ) → k < n → f k v → g k v) → RowOf f before after p n → RowOf g before after p n
+  row-map {after = after} m r = record { size = r .size; kept = r .kept; each = λ k h. m k (entry after p k) h (r .each k h) }
+
+  pub row-less : {after : List ℕ} {n k : ℕ} → n ≤ k → RowOf f before after p k → RowOf f before after p n
+  row-less h r = record { size = r .size; kept = r .kept; each = λ j l. r .each j (omega arith) }
 
 pub rows-none : {bytes ends s alone nothing : List ℕ} → Alone bytes ends s alone nothing 0
 rows-none = record { strings = λ t p k h. absurd (omega arith); empty = λ t p h. absurd (omega arith) }
 
 pub rows-more : {bytes ends s alone after nothing : List ℕ} {p v : ℕ} → length ends ≤ maxStrings → p < length nothing → SchemaPasses (length ends) s → Alone bytes ends s alone nothing p
-    → RowFilled bytes ends s alone after p (length ends) → NothingAt s nothing p v → Alone bytes ends s after (set nothing p v) (p + 1)
-rows-more {bytes} {ends} {s} {alone} {after} {nothing} {p} {v} h i c a r d =
+    → RowMade bytes ends s alone nothing after p → NothingAt s nothing p v → Alone bytes ends s after (set nothing p v) (p + 1)
+rows-more {bytes} {ends} {s} {alone} {after} {nothing} {p} {v} h i c a m d =
+    let r = m c a in
     let b = alone-kept {now = after} h (r .kept) a in
     record {
-      strings = λ t q k. below-more (λ (j : ℕ). k < length ends → TellsString bytes ends s t j k (entry after j k)) p (λ j m. b .strings t j k m) (r .right t k) q;
+      strings = λ t q k. below-more (λ (j : ℕ). k < length ends → TellsString bytes ends s t j k (entry after j k)) p (λ j m. b .strings t j k m) (λ l. r .each k l t) q;
       empty = λ t. below-more (λ (j : ℕ). TellsNothing bytes ends s t j (getD (set nothing p v) j 0)) p
           (λ j m. subst (λ (x : ℕ). TellsNothing bytes ends s t j x) (sym (getD-set-other nothing p j v 0 (λ e. omega arith))) (a .empty t j m))
           (subst (λ (x : ℕ). TellsNothing bytes ends s t p x) (sym (getD-set-same nothing p v 0 i)) (d bytes ends t alone c a));

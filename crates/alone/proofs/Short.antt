@@ -2,17 +2,17 @@
 use Prim.Native.Nat.{ℕ}
 use mathlib.Core.Path.{_≡_, refl, sym, _∙_, ap}
 use mathlib.Core.Bool.{true, false, true≢false}
-use mathlib.Core.List.{List, [], _∷_, _++_, nil≢cons, cons≢nil, head-eq-of-cons-eq, tail-eq-of-cons-eq}
+use mathlib.Core.List.{List, [], _∷_, _++_, nil≢cons, head-eq-of-cons-eq, tail-eq-of-cons-eq}
 use mathlib.Core.Logic.{_⊎_, inl, inr, _↔_}
 use native.Mathlib.Omega.{arith}
 use borrow.Author.Tests.{eq-eqb}
 use Rattle.schema.specs.Views.{Pattern}
 use Rattle.schema.specs.Views as pattern
 use Rattle.rules.specs.Items.{Item, element, string, Attributes, none, only, _∪_, Lookups}
-use Rattle.rules.specs.Rules.{Interleaves, Ws, ws-empty, ws-string, Match, choice-1, choice-2, group, empty, text-1, text-2, oneOrMore-1, oneOrMore-2, interleave}
+use Rattle.rules.specs.Rules.{Match, group, empty, oneOrMore-1, oneOrMore-2, interleave}
 use Rattle.rules.proofs.Booleans.{none-left, none-right}
 use Rattle.rules.proofs.Interleavings.{Shuffle, shuffle, interleaved, done, left, right}
-use Rattle.rules.proofs.Inversion.{One, cast, Grouped, Interleaved, AttributeMatch, ElementMatch, stepwise}
+use Rattle.rules.proofs.Inversion.{cast, stepwise}
 
 -- the two ways to share one item out, and the one way to share none
 pub data Shared (y : Item) : List Item → List Item → Type 0 where

@@ -5,19 +5,42 @@ use mathlib.Core.Logic.{_↔_, _⊎_, _≢_}
 use mathlib.Core.List.{List}
 use lib.ListN.{length, getD}
 use Rattle.schema.specs.Kinds as kind
-use Rattle.schema.specs.Rows.{bOf}
-use Rattle.strings.specs.Strings.{maxStrings}
+use Rattle.schema.specs.Rows.{kindOf, aOf, bOf}
+use Rattle.strings.specs.Strings.{textOf, maxStrings}
 use Rattle.restrictions.proofs.Passes.{SchemaPasses}
+use Rattle.rules.specs.Job.{datatypeEqual}
 use Rattle.alone.specs.Alone.{entry, TellsString, TellsNothing, Alone}
 
--- one of two patterns matches string k alone, and the other the empty sequence
-abbrev pub OneOf : (alone nothing : List ℕ) (a b k : ℕ) → Type 0
-OneOf alone nothing a b k = ((entry alone a k ≡ 1) × (getD nothing b 0 ≡ 1)) ⊎ ((getD nothing a 0 ≡ 1) × (entry alone b k ≡ 1))
+-- the answer v for string k by the rows that come before: it is in one of two
+abbrev pub EitherOf : (alone : List ℕ) (a b k v : ℕ) → Type 0
+EitherOf alone a b k v = (v ≡ 1) ↔ ((entry alone a k ≡ 1) ⊎ (entry alone b k ≡ 1))
 
--- the answer for data at row p: 1 without an except, and otherwise where the except's entry is not 1
-pub record DataEntry (s alone : List ℕ) (p k v : ℕ) : Type 0 where
-  pub all : bOf s p ≡ kind.none → v ≡ 1
-  pub except : bOf s p ≢ kind.none → (v ≡ 1) ↔ ¬ (entry alone (bOf s p) k ≡ 1)
+-- it is not in one
+abbrev pub NotOf : (alone : List ℕ) (a k v : ℕ) → Type 0
+NotOf alone a k v = (v ≡ 1) ↔ ¬ (entry alone a k ≡ 1)
+
+-- data: 1 without an except, and otherwise where the except's entry is not 1
+pub record DataEntry (alone : List ℕ) (except k v : ℕ) : Type 0 where
+  pub all : except ≡ kind.none → v ≡ 1
+  pub but : except ≢ kind.none → NotOf alone except k v
+
+-- one of two patterns matches the string alone, and the other the empty sequence
+abbrev pub OneSide : (alone nothing : List ℕ) (a b k : ℕ) → Type 0
+OneSide alone nothing a b k = ((entry alone a k ≡ 1) × (getD nothing b 0 ≡ 1)) ⊎ ((getD nothing a 0 ≡ 1) × (entry alone b k ≡ 1))
+
+abbrev pub OneOf : (alone nothing : List ℕ) (a b k v : ℕ) → Type 0
+OneOf alone nothing a b k v = (v ≡ 1) ↔ OneSide alone nothing a b k
+
+-- the string is one value with string w
+abbrev pub EqualTo : (bytes ends : List ℕ) (datatype w k v : ℕ) → Type 0
+EqualTo bytes ends datatype w k v = (v ≡ 1) ↔ datatypeEqual datatype (textOf bytes ends k) (textOf bytes ends w)
+
+-- row q comes before row p, and is a value with the same fields
+pub record SameRow (s : List ℕ) (q p : ℕ) : Type 0 where
+  pub before : q < p
+  pub is-value : kindOf s q ≡ kind.value
+  pub same-datatype : aOf s q ≡ aOf s p
+  pub same-string : bOf s q ≡ bOf s p
 
 -- the answer for the empty sequence at row p, where the rows below are right
 abbrev pub NothingAt : (s nothing : List ℕ) (p v : ℕ) → Type 0
@@ -27,8 +50,12 @@ NothingAt s nothing p v = (bytes ends t alone : List ℕ) → SchemaPasses (leng
 abbrev pub StringAt : (bytes ends s alone nothing : List ℕ) (p k v : ℕ) → Type 0
 StringAt bytes ends s alone nothing p k v = (t : List ℕ) → SchemaPasses (length ends) s → Alone bytes ends s alone nothing p → k < length ends → TellsString bytes ends s t p k v
 
--- the first n entries of row p are right, and nothing before the row has changed
-pub record RowFilled (bytes ends s before after : List ℕ) (p n : ℕ) : Type 0 where
+-- the first n entries of row p are as f tells, and nothing before the row has changed
+pub record RowOf (f : ℕ → ℕ → Type 0) (before after : List ℕ) (p n : ℕ) : Type 0 where
   pub size : length after ≡ length before
   pub kept : (i : ℕ) → i < p * maxStrings → getD after i 0 ≡ getD before i 0
-  pub right : (t : List ℕ) (k : ℕ) → k < n → TellsString bytes ends s t p k (entry after p k)
+  pub each : (k : ℕ) → k < n → f k (entry after p k)
+
+-- the entries of row p are right, where those of the rows below are
+abbrev pub RowMade : (bytes ends s before nothing after : List ℕ) (p : ℕ) → Type 0
+RowMade bytes ends s before nothing after p = SchemaPasses (length ends) s → Alone bytes ends s before nothing p → RowOf (λ k v. (t : List ℕ) → TellsString bytes ends s t p k v) before after p (length ends)

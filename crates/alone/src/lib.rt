@@ -1,15 +1,18 @@
 // Which strings match a pattern alone, and which patterns match nothing at all.
 ghost use mathlib.Core.Path.{_≡_};
 ghost use mathlib.Core.Bool.{true};
-ghost use mathlib.Core.Logic.{_↔_, _⊎_};
-ghost use Prim.Native.Nat.{_<_, _≤_};
+ghost use mathlib.Core.Logic.{_↔_, _⊎_, _≢_};
+ghost use mathlib.Core.List.{List};
+ghost use Prim.Native.Nat.{ℕ, _<_, _≤_};
 ghost use lib.ListN.{length, getD};
 ghost use Rattle.strings.specs.Strings.{textOf};
 ghost use Rattle.datatypes.specs.Whitespace.{whitespace};
 ghost use Rattle.restrictions.proofs.Passes.{SchemaPasses};
 ghost use Rattle.rules.specs.Job.{datatypeEqual};
-ghost use Rattle.alone.specs.Alone.{entry, Blank, Alone, Ready, Filled};
-ghost use Rattle.alone.specs.Rows.{OneOf, DataEntry, NothingAt, StringAt, RowFilled};
+ghost use Rattle.schema.specs.Kinds.{none, value};
+ghost use Rattle.schema.specs.Rows.{kindOf};
+ghost use Rattle.alone.specs.Alone.{Blank, Alone, Ready, Filled};
+ghost use Rattle.alone.specs.Rows.{EitherOf, NotOf, DataEntry, OneOf, EqualTo, SameRow, NothingAt, RowOf, RowMade};
 
 fn either(x: u8, y: u8) -> u8
     ensures { λ r. ⌜ (r ≡ 1) ↔ ((x ≡ 1) ⊎ (y ≡ 1)) ⌝ }
@@ -38,25 +41,16 @@ fn neither(x: u8) -> u8
     1
 }
 
-// The entry of string k in the row of pattern p.
-fn string_in(alone: &[u8], p: u32, k: u32) -> u8
-    ensures { λ r. ⌜ r ≡ entry (now (alone .entry)) p k ⌝ }
-{
-    tables::byte(alone, p as usize * 512 + k as usize)
-}
-
 fn nothing_in(nothing: &[u8], p: u32) -> u8
     ensures { λ r. ⌜ r ≡ getD (now (nothing .entry)) p 0 ⌝ }
 {
     tables::byte(nothing, p as usize)
 }
 
-// Whether two strings are one value of a datatype.
-fn same_value(bytes: &[u8], ends: &[u32], datatype: u32, k: u32, v: u32) -> u8
-    ensures { λ r. ⌜ (r ≡ 1) ↔ datatypeEqual datatype (textOf (now (bytes .entry)) (now (ends .entry)) k) (textOf (now (bytes .entry)) (now (ends .entry)) v) ⌝ }
+// Whether two texts are one value of a datatype.
+fn same_value(datatype: u32, a: &[u8], b: &[u8]) -> u8
+    ensures { λ r. ⌜ (r ≡ 1) ↔ datatypeEqual datatype (now (a .entry)) (now (b .entry)) ⌝ }
 {
-    let a = strings::text(bytes, ends, k as usize);
-    let b = strings::text(bytes, ends, v as usize);
     if datatype == 0 {
         if datatypes::same_string(a, b) {
             return 1;
@@ -87,63 +81,179 @@ fn nothing_at(schema: &[u32], nothing: &[u8], p: u32) -> u8
     }
 }
 
-// Whether string k alone matches the data at row p.
-fn data_at(schema: &[u32], alone: &[u8], p: u32, k: u32) -> u8
-    ensures { λ r. ⌜ DataEntry (now (schema .entry)) (now (alone .entry)) p k r ⌝ }
+// The first n entries of row p become v.
+fn fill_same(alone: &mut [u8], p: u32, n: usize, v: u8)
+    requires { ⌜ (p < 512) × (n ≤ 512) × (262144 ≤ length (now alone)) ⌝ }
+    ensures { λ _. ⌜ RowOf (λ k x. x ≡ v) (now (alone .entry)) (now (alone .exit)) p n ⌝ }
 {
-    let except = schema::field_b(schema, p);
-    if except == 4294967295 {
-        return 1;
+    let to = p as usize * 512;
+    let mut k: usize = 0;
+    while k < n {
+        alone[to + k] = v;
+        k += 1;
     }
-    neither(string_in(alone, except, k))
 }
 
-// Whether one of two patterns matches string k alone and the other the empty sequence.
-fn one_of(alone: &[u8], nothing: &[u8], a: u32, b: u32, k: u32) -> u8
-    ensures { λ r. ⌜ (r ≡ 1) ↔ OneOf (now (alone .entry)) (now (nothing .entry)) a b k ⌝ }
+// The first n entries of row p become 1 where row a or row b has 1. Both come before row p; with one row for both its entries are taken over.
+fn fill_either(alone: &mut [u8], p: u32, n: usize, a: u32, b: u32)
+    requires { ⌜ (p < 512) × (n ≤ 512) × (262144 ≤ length (now alone)) ⌝ }
+    ensures { λ _. ⌜ (a < p → b < p → RowOf (EitherOf (now (alone .entry)) a b) (now (alone .entry)) (now (alone .exit)) p n) ⌝ }
 {
-    let first = both(string_in(alone, a, k), nothing_in(nothing, b));
-    let second = both(nothing_in(nothing, a), string_in(alone, b, k));
-    either(first, second)
+    if p <= a {
+        return;
+    }
+    if p <= b {
+        return;
+    }
+    let to = p as usize * 512;
+    let first = a as usize * 512;
+    let second = b as usize * 512;
+    let mut k: usize = 0;
+    while k < n {
+        alone[to + k] = either(alone[first + k], alone[second + k]);
+        k += 1;
+    }
 }
 
-// Whether string k alone matches the pattern at row p, by the rows below it.
-fn string_at(
+// The first n entries of row p become 1 where row a, which comes before it, has no 1.
+fn fill_neither(alone: &mut [u8], p: u32, n: usize, a: u32)
+    requires { ⌜ (p < 512) × (n ≤ 512) × (262144 ≤ length (now alone)) ⌝ }
+    ensures { λ _. ⌜ (a < p → RowOf (NotOf (now (alone .entry)) a) (now (alone .entry)) (now (alone .exit)) p n) ⌝ }
+{
+    if p <= a {
+        return;
+    }
+    let to = p as usize * 512;
+    let from = a as usize * 512;
+    let mut k: usize = 0;
+    while k < n {
+        alone[to + k] = neither(alone[from + k]);
+        k += 1;
+    }
+}
+
+// The entries of data: every string matches, but for those that match its except.
+fn fill_data(alone: &mut [u8], p: u32, n: usize, except: u32)
+    requires { ⌜ (p < 512) × (n ≤ 512) × (262144 ≤ length (now alone)) ⌝ }
+    ensures { λ _. ⌜ ((except ≢ none → except < p) → RowOf (DataEntry (now (alone .entry)) except) (now (alone .entry)) (now (alone .exit)) p n) ⌝ }
+{
+    if except == 4294967295 {
+        fill_same(alone, p, n, 1);
+        return;
+    }
+    fill_neither(alone, p, n, except);
+}
+
+// The entries of a group or an interleave: one operand matches the string alone and the other the empty sequence.
+fn fill_one(alone: &mut [u8], nothing: &[u8], p: u32, n: usize, a: u32, b: u32)
+    requires { ⌜ (p < 512) × (n ≤ 512) × (262144 ≤ length (now alone)) ⌝ }
+    ensures { λ _. ⌜ (a < p → b < p → RowOf (OneOf (now (alone .entry)) (now (nothing .entry)) a b) (now (alone .entry)) (now (alone .exit)) p n) ⌝ }
+{
+    let first = nothing_in(nothing, a);
+    let second = nothing_in(nothing, b);
+    if first == 1 {
+        if second == 1 {
+            fill_either(alone, p, n, a, b);
+            return;
+        }
+        fill_either(alone, p, n, b, b);
+        return;
+    }
+    if second == 1 {
+        fill_either(alone, p, n, a, a);
+        return;
+    }
+    fill_same(alone, p, n, 0);
+}
+
+// The entries of a value: the strings that are one value with string v.
+fn fill_equal(bytes: &[u8], ends: &[u32], alone: &mut [u8], p: u32, datatype: u32, v: u32)
+    requires { ⌜ (p < 512) × (length (now ends) ≤ 512) × (262144 ≤ length (now alone)) ⌝ }
+    ensures { λ _. ⌜ RowOf (EqualTo (now (bytes .entry)) (now (ends .entry)) datatype v) (now (alone .entry)) (now (alone .exit)) p (length (now (ends .entry))) ⌝ }
+{
+    let own = strings::text(bytes, ends, v as usize);
+    let to = p as usize * 512;
+    let mut k: usize = 0;
+    while k < ends.len() {
+        let x = same_value(datatype, strings::text(bytes, ends, k), own);
+        alone[to + k] = x;
+        k += 1;
+    }
+}
+
+// Whether row q comes before row p and is the same value.
+fn is_same_row(schema: &[u32], q: u32, p: u32) -> bool
+    ensures { λ r. ⌜ (r ≡ true → SameRow (now (schema .entry)) q p) ⌝ }
+{
+    if p <= q {
+        return false;
+    }
+    if schema::kind(schema, q) != 5 {
+        return false;
+    }
+    if schema::field_a(schema, q) != schema::field_a(schema, p) {
+        return false;
+    }
+    schema::field_b(schema, q) == schema::field_b(schema, p)
+}
+
+// Where the row of a datatype and a string is noted.
+fn slot(datatype: u32, v: u32) -> usize
+    ensures { λ r. ⌜ r < 1024 ⌝ }
+{
+    datatype as usize % 2 * 512 + v as usize % 512
+}
+
+// The entries of the value at row p. Texts are compared once for each datatype and string: a later row with the same fields takes over the entries of the row that is noted for them. Whatever is noted, the row's fields are looked at.
+fn fill_value(
     bytes: &[u8],
     ends: &[u32],
     schema: &[u32],
-    alone: &[u8],
-    nothing: &[u8],
+    alone: &mut [u8],
+    noted: &mut [u32; 1024],
     p: u32,
-    k: u32,
-) -> u8
-    ensures { λ r. ⌜ StringAt (now (bytes .entry)) (now (ends .entry)) (now (schema .entry)) (now (alone .entry)) (now (nothing .entry)) p k r ⌝ }
+)
+    requires { ⌜ (p < 512) × (length (now ends) ≤ 512) × (262144 ≤ length (now alone)) ⌝ }
+    ensures { λ _. ⌜ ((nothing : List ℕ) → kindOf (now (schema .entry)) p ≡ value → RowMade (now (bytes .entry)) (now (ends .entry)) (now (schema .entry)) (now (alone .entry)) nothing (now (alone .exit)) p) ⌝ }
+{
+    let a = schema::field_a(schema, p);
+    let b = schema::field_b(schema, p);
+    let at = slot(a, b);
+    let q = noted[at];
+    if is_same_row(schema, q, p) {
+        fill_either(alone, p, ends.len(), q, q);
+        return;
+    }
+    noted[at] = p;
+    fill_equal(bytes, ends, alone, p, a, b);
+}
+
+// The entries of the row of pattern p.
+fn fill_row(
+    bytes: &[u8],
+    ends: &[u32],
+    schema: &[u32],
+    alone: &mut [u8],
+    nothing: &[u8],
+    noted: &mut [u32; 1024],
+    p: u32,
+)
+    requires { ⌜ (p < 512) × (length (now ends) ≤ 512) × (262144 ≤ length (now alone)) ⌝ }
+    ensures { λ _. ⌜ RowMade (now (bytes .entry)) (now (ends .entry)) (now (schema .entry)) (now (alone .entry)) (now (nothing .entry)) (now (alone .exit)) p ⌝ }
 {
     let kind = schema::kind(schema, p);
     let a = schema::field_a(schema, p);
     let b = schema::field_b(schema, p);
+    let n = ends.len();
     match kind {
-        3 => 1,
-        4 => data_at(schema, alone, p, k),
-        5 => same_value(bytes, ends, a, k, b),
-        9 => string_in(alone, a, k),
-        10 => either(string_in(alone, a, k), string_in(alone, b, k)),
-        11 => one_of(alone, nothing, a, b, k),
-        12 => one_of(alone, nothing, a, b, k),
-        _ => 0,
-    }
-}
-
-// The entries of the row of pattern p.
-fn fill_row(bytes: &[u8], ends: &[u32], schema: &[u32], alone: &mut [u8], nothing: &[u8], p: u32)
-    requires { ⌜ (p < 512) × (length (now ends) ≤ 512) × (262144 ≤ length (now alone)) ⌝ }
-    ensures { λ _. ⌜ (SchemaPasses (length (now (ends .entry))) (now (schema .entry)) → Alone (now (bytes .entry)) (now (ends .entry)) (now (schema .entry)) (now (alone .entry)) (now (nothing .entry)) p → RowFilled (now (bytes .entry)) (now (ends .entry)) (now (schema .entry)) (now (alone .entry)) (now (alone .exit)) p (length (now (ends .entry)))) ⌝ }
-{
-    let mut k: u32 = 0;
-    while (k as usize) < ends.len() {
-        let v = string_at(bytes, ends, schema, alone, nothing, p, k);
-        alone[p as usize * 512 + k as usize] = v;
-        k += 1;
+        3 => fill_same(alone, p, n, 1),
+        4 => fill_data(alone, p, n, b),
+        5 => fill_value(bytes, ends, schema, alone, noted, p),
+        9 => fill_either(alone, p, n, a, a),
+        10 => fill_either(alone, p, n, a, b),
+        11 => fill_one(alone, nothing, p, n, a, b),
+        12 => fill_one(alone, nothing, p, n, a, b),
+        _ => fill_same(alone, p, n, 0),
     }
 }
 
@@ -159,10 +269,11 @@ fn fill_rows(
     requires { ⌜ (rows ≤ 512) × (length (now ends) ≤ 512) × (262144 ≤ length (now alone)) × (512 ≤ length (now nothing)) ⌝ }
     ensures { λ _. ⌜ (SchemaPasses (length (now (ends .entry))) (now (schema .entry)) → Alone (now (bytes .entry)) (now (ends .entry)) (now (schema .entry)) (now (alone .exit)) (now (nothing .exit)) rows) ⌝ }
 {
+    let mut noted = [0u32; 1024];
     let mut p: u32 = 0;
     while p < rows {
         let v = nothing_at(schema, nothing, p);
-        fill_row(bytes, ends, schema, alone, nothing, p);
+        fill_row(bytes, ends, schema, alone, nothing, &mut noted, p);
         nothing[p as usize] = v;
         p += 1;
     }

@@ -6,7 +6,7 @@ use native.Mathlib.Decide.{decLt}
 use native.Mathlib.Omega.{arith}
 use lib.Dec.{ltb}
 use borrow.Author.Tests.{lt-ltb}
-use Rattle.sets.specs.Relations.{Relation, Plus, once, more}
+use Rattle.relations.specs.Relations.{Relation, Plus, once, more}
 use Rattle.cases.proofs.Tests.{someBelow, some-below, below-some, guarded, unguarded}
 
 module _ (R : ℕ → ℕ → Bool) where

@@ -10,7 +10,7 @@ use borrow.Author.Tests.{eqb-true, lt-ltb, ltb-true}
 use Rattle.tables.proofs.Numbers.{not-less}
 use Rattle.schema.specs.Views.{Pattern}
 use Rattle.schema.specs.Views as pattern
-use Rattle.sets.specs.Relations.{Plus, Then}
+use Rattle.relations.specs.Relations.{Plus, Then}
 use Rattle.rules.specs.Items.{Item, element, string, Attributes, none, only, Lookups}
 use Rattle.rules.specs.Rules.{Match, WeakMatch, NotMatchBy}
 use Rattle.rules.proofs.Booleans.{and-left, and-right, _∩_, _∖_}

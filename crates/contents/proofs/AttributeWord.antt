@@ -1,7 +1,7 @@
 -- The attributes of an element as the positions of a word: they stand right after it, and there are as many as were counted.
 use Prim.Native.Nat.{ℕ, zero, suc, _+_, _-_, _*_, _/_, _%_, _^_, _≤_, _<_}
-use mathlib.Core.Path.{_≡_, refl, sym, _∙_, ap, subst, fun-ext}
-use mathlib.Core.Bool.{Bool, true, false, cond, _&&_, true≢false}
+use mathlib.Core.Path.{_≡_, refl, sym, _∙_, ap, fun-ext}
+use mathlib.Core.Bool.{Bool, true, false, _&&_, true≢false}
 use mathlib.Core.List.{List}
 use native.Mathlib.Omega.{arith}
 use native.Mathlib.Decide.{decLt}
@@ -12,7 +12,7 @@ use Rattle.instance.specs.Nodes.{element, attribute, nodesOf, kindOf, aOf, bOf,
 use Rattle.instance.specs.NodeRule.{fieldsRight, bad-node, bad-fields, NodesRight}
 use Rattle.instance.specs.Width.{maxWidth, howMany, WidthFault, many-attributes}
 use Rattle.instance.proofs.Order.{attribute-kind}
-use Rattle.instance.proofs.Elements.{has-kind, attribute-later, attributes-first, attributes-differ}
+use Rattle.instance.proofs.Elements.{attribute-later, attributes-first, attributes-differ}
 use Rattle.sets.specs.Bits.{flag, bit}
 use Rattle.sets.proofs.Bits.{two-pow, bit-none, one-shl}
 use Rattle.rules.proofs.Booleans.{is-false, and-right}

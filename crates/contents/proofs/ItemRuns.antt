@@ -1,28 +1,25 @@
 -- The children of an element as items at positions, and the runs over them.
 use Prim.Native.Nat.{ℕ, zero, suc, _+_, _-_, _≤_, _<_}
 use mathlib.Core.Path.{_≡_, refl, sym, _∙_, ap, ap₂}
-use mathlib.Core.Bool.{Bool, true, false, cond, _&&_, true≢false, false≢true}
+use mathlib.Core.Bool.{Bool, true, false, _&&_}
 use mathlib.Core.List.{List, [], _∷_, _++_, map, append-nil, List·Memᴰ, List·Memᴰ·head, List·Memᴰ·tail}
-use mathlib.Core.Logic.{_⊎_, inl, inr, _↔_}
+use mathlib.Core.Logic.{_⊎_, inl, inr}
 use native.Mathlib.Omega.{arith}
 use native.Mathlib.Decide.{decLt}
 use lib.Dec.{eqb, ltb}
 use lib.ListN.{length, getD, length-map, List·getD-map}
-use borrow.Author.Tests.{lt-ltb, le-ltb, eq-eqb, ne-eqb, eqb-true}
+use borrow.Author.Tests.{lt-ltb, le-ltb, eqb-true}
 use Rattle.tables.proofs.Numbers.{not-less}
-use Rattle.strings.specs.Strings.{textOf}
 use Rattle.instance.specs.Nodes.{element, text, nodesOf, kindOf, aOf, isChild}
 use Rattle.instance.specs.NodeRule.{NodesRight}
 use Rattle.instance.specs.Width.{maxWidth, WidthFault}
 use Rattle.instance.specs.Elements.{isElement, childrenOf}
-use Rattle.instance.proofs.Elements.{child-later}
 use Rattle.instance.proofs.RowLists.{listed-row, few-children, child-kinds}
 use Rattle.sets.specs.Bits.{bit}
 use Rattle.rules.specs.Items.{Item, string}
 use Rattle.rules.specs.Items as item
 use Rattle.rules.specs.Job.{itemOf, lookups}
-use Rattle.rules.proofs.Booleans.{is-false}
-use Rattle.rules.proofs.Runs.{added, run, kept, run-add, run-list}
+use Rattle.rules.proofs.Runs.{run, kept, run-add, run-list}
 use Rattle.marks.specs.Given.{itemAt}
 use Rattle.marks.specs.Tests.{Collects}
 use Rattle.contents.specs.Contents.{Holds, Children, itemWord, ofKind, Itemized, Contents}
@@ -67,11 +64,8 @@ collected-contents {strings} {t} {rows} {items} {e} {n} {texts} {elements} right
   elements-at = λ j. es few .members j ∙ kinds element j (decLt j n);
 }
   where
-    none-before : (x : ℕ) → x ≤ e → isChild t e x ≡ false
-    none-before x l = is-false (isChild t e x) (λ b. let z = child-later right e x h b .0 in absurd (omega arith))
-
     held : Holds rows (childrenOf t e) n
-    held = c none-before
+    held = c strings right
 
     few : n ≤ maxWidth
     few = rw (held .count) (few-children h k narrow)
@@ -114,9 +108,9 @@ module _ {t : List ℕ} {e : ℕ} {items : List ℕ} {n texts elements : ℕ} (c
         go (is-element i b j) = rw (b, i, j)
 
     -- the items that pass a test
-    pub run-contents : (P : Item → Bool) (w : ℕ) → ((k : ℕ) → bit w k ≡ (ltb k n && P (itemAt bytes ends items texts k))) → run (itemAt bytes ends items texts) (bit w) 0 maxWidth ≡ kept P (lookups bytes ends s t .children e)
+    pub run-contents : (P : Item → Bool) (w : ℕ) → ((k : ℕ) → bit w k ≡ (ltb k n && P (itemAt bytes ends items texts k))) → run (itemAt bytes ends items texts) (bit w) 0 n ≡ kept P (lookups bytes ends s t .children e)
     run-contents P w f =
-        run-members P (itemOf bytes ends s t 0) (map (itemOf bytes ends s t) (childrenOf t e)) (itemAt bytes ends items texts) (bit w) maxWidth (let m = c .few in omega (arith, size)) at tested past
+        run-members P (itemOf bytes ends s t 0) (map (itemOf bytes ends s t) (childrenOf t e)) (itemAt bytes ends items texts) (bit w) n (omega (arith, size)) at tested past
       where
         size : length (map (itemOf bytes ends s t) (childrenOf t e)) ≡ n
         size = length-map (childrenOf t e) (itemOf bytes ends s t) ∙ sym (c .count)

@@ -1,3 +1,4 @@
 pub mod AttributeWord
 pub mod ItemRuns
 pub mod Lists
+pub mod Subtree

@@ -9,11 +9,14 @@ use borrow.Author.Count.{below-more}
 use borrow.Author.Tests.{not-true, not-false}
 use lib.ListN.{length, getD, set, length-set, length-append, List·getD-append}
 use lib.Seq.{getD-set-same, getD-set-other, getD-append-seam}
-use Rattle.instance.specs.Nodes.{isChild, isAttribute}
+use Rattle.instance.specs.Nodes.{nodesOf, parentOf, isChild, isAttribute}
 use Rattle.instance.specs.Elements.{rowsWhere}
 use Rattle.instance.specs.Width.{maxWidth}
+use Rattle.instance.proofs.Elements.{child-later}
+use Rattle.rules.proofs.Booleans.{is-false}
 use Rattle.marks.specs.Marks.{attributeRow}
 use Rattle.contents.specs.Contents.{Counted, Holds, Children, itemWord, Itemized}
+use Rattle.contents.proofs.Subtree.{children-to}
 
 pub rows-none : (test : ℕ → Bool) (n : ℕ) → ((x : ℕ) → x < n → test x ≡ false) → rowsWhere test n ≡ []
 unfolding rowsWhere
@@ -36,9 +39,10 @@ holds-more {words} {l} {n} r false h = record {
   each = λ k m i. getD-set-other words n k r 0 (λ z. omega arith) ∙ h .each k (omega arith) (rw (length-set words n r) at i) ∙ ap (λ (m : List ℕ). getD m k 0) (sym (append-nil l));
 }
 
-pub children-none : (t : List ℕ) (e : ℕ) (words : List ℕ) → Children t e words 0 (e + 1)
-children-none t e words f =
-    let z = rows-none (isChild t e) (e + 1) (λ x h. f x (omega arith)) in
+-- no row up to e is a child of e
+pub children-none : (t : List ℕ) (e : ℕ) (words : List ℕ) → e < nodesOf t → Children t e words 0 (e + 1)
+children-none t e words l strings right =
+    let z = rows-none (isChild t e) (e + 1) (λ x h. is-false (isChild t e x) (λ b. omega (arith, child-later right e x l b .0))) in
     record { count = rw z refl; each = λ k h. absurd (omega arith) }
 
 pub size-kept : (words : List ℕ) {after : List ℕ} {m : ℕ} (k v : ℕ) → after ≡ set words k v → length words ≡ m → length after ≡ m
@@ -46,7 +50,11 @@ size-kept words k v p q = ap length p ∙ length-set words k v ∙ q
 
 pub children-more : (t : List ℕ) (e : ℕ) {words after : List ℕ} {n m : ℕ} (r : ℕ) → after ≡ set words n r → m ≡ cond (isChild t e r) 1 0 → Children t e words n r → Children t e after (n + m) (r + 1)
 unfolding rowsWhere
-children-more t e r p q h f = rw (p, q, add-one r) (holds-more r (isChild t e r) (h f))
+children-more t e r p q h strings right = rw (p, q, add-one r) (holds-more r (isChild t e r) (h strings right))
+
+-- all children are listed where the parent of the next row comes before e
+pub children-all : (t : List ℕ) (e : ℕ) {words : List ℕ} {n : ℕ} (r : ℕ) → e < r → r < nodesOf t → parentOf t r < e → Children t e words n r → Children t e words n (nodesOf t)
+children-all t e r after within out h strings right = rw (children-to right after within out) (h strings right)
 
 pub itemized-none : (t before : List ℕ) → Itemized t before before 0
 itemized-none t before = record { size = refl; each = λ k h. absurd (omega arith); rest = λ k h. refl }

@@ -6,6 +6,7 @@ use mathlib.Core.List.{List}
 use lib.Dec.{eqb, ltb}
 use lib.ListN.{length, getD}
 use Rattle.instance.specs.Nodes.{text, kindOf, aOf, isChild, isAttribute}
+use Rattle.instance.specs.NodeRule.{NodesRight}
 use Rattle.instance.specs.Elements.{rowsWhere, isElement, childrenOf}
 use Rattle.instance.specs.Width.{maxWidth}
 use Rattle.sets.specs.Bits.{bit}
@@ -21,9 +22,9 @@ pub record Holds (words l : List ℕ) (n : ℕ) : Type 0 where
   pub count : n ≡ length l
   pub each : (k : ℕ) → k < n → k < length words → getD words k 0 ≡ getD l k 0
 
--- the first n words are the rows of e's children that stand before row r, where e has no child before it
+-- the first n words are the rows of e's children that stand before row r, where the rows keep their rule
 abbrev pub Children : (t : List ℕ) (e : ℕ) (words : List ℕ) (n r : ℕ) → Type 0
-Children t e words n r = ((x : ℕ) → x ≤ e → isChild t e x ≡ false) → Holds words (rowsWhere (isChild t e) r) n
+Children t e words n r = (strings : ℕ) → NodesRight strings t → Holds words (rowsWhere (isChild t e) r) n
 
 -- an item as a word: a text by its string, an element by its row
 abbrev pub itemWord : List ℕ → ℕ → ℕ

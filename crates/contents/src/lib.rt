@@ -2,8 +2,7 @@
 ghost use mathlib.Core.Path.{_≡_};
 ghost use mathlib.Core.Bool.{true, cond};
 ghost use Prim.Native.Nat.{_+_, _≤_, _<_};
-ghost use lib.Dec.{eqb};
-ghost use lib.ListN.{length, set};
+ghost use lib.ListN.{set};
 ghost use Rattle.instance.specs.Nodes.{nodesOf, isChild, isAttribute};
 ghost use Rattle.instance.specs.NodeRule.{maxNodes};
 ghost use Rattle.instance.specs.Width.{maxWidth};
@@ -69,7 +68,7 @@ fn store(words: &mut [u32], k: u32, v: u32)
     }
 }
 
-// The rows of the children of element e, and how many there are.
+// The rows of the children of element e, and how many there are. Past the first row whose parent comes before e there is none: the rows of e's descendants stand together.
 pub fn children(instance: &[u32], e: u32, rows: &mut [u32]) -> u32
     ensures { λ n. ⌜ (nodesOf (now (instance .entry)) ≤ maxNodes → e < nodesOf (now (instance .entry)) → Children (now (instance .entry)) e (now (rows .exit)) n (nodesOf (now (instance .entry)))) ⌝ }
 {
@@ -83,6 +82,9 @@ pub fn children(instance: &[u32], e: u32, rows: &mut [u32]) -> u32
     let mut n: u32 = 0;
     let mut r: u32 = e + 1;
     while (r as usize) < nodes {
+        if instance::parent(instance, r) < e {
+            return n;
+        }
         store(rows, n, r);
         n += child_count(instance, e, r);
         r += 1;

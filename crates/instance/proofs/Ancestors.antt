@@ -22,7 +22,7 @@ up-none itself z = z
 up-none (above f u) z = absurd (f z)
 
 -- an ancestor before e is one of its parent
-up-parent : {t : List ℕ} {p e : ℕ} → Up t p e → p < e → Up t p (parentOf t e)
+pub up-parent : {t : List ℕ} {p e : ℕ} → Up t p e → p < e → Up t p (parentOf t e)
 up-parent itself h = absurd (omega arith)
 up-parent (above f u) h = u
 
@@ -54,7 +54,7 @@ later-told zero h right = absurd (omega arith)
 later-told {t} (suc r) h right = (right .0, (let e : r ≡ suc r - 1 = omega arith in subst (λ (x : ℕ). Up t (parentOf t (suc r)) (nearest t x)) e (right .1)))
 
 module _ {t : List ℕ} {r : ℕ} (rooted : Rooted t r) where
-  up-before : {x e : ℕ} → x ≢ none → Up t x e → e < r → x ≤ e
+  pub up-before : {x e : ℕ} → x ≢ none → Up t x e → e < r → x ≤ e
   up-before n itself h = omega arith
   up-before {x} {e} n (above f u) h = go (decLt 0 e) (λ l. up-before n u l)
     where

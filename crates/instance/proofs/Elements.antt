@@ -122,7 +122,7 @@ module _ {strings : ℕ} {t : List ℕ} (right : NodesRight strings t) where
           absurd (eqb-false _ _ e (ap (kindOf t) r₀ ∙ rooted .root-kind (omega arith)))
 
   -- the parent of a row is the nearest element of the row before, or an ancestor of that
-  parent-up : (r : ℕ) → suc r < nodesOf t → ¬ (¬ Up t (parentOf t (suc r)) (nearest t r))
+  pub parent-up : (r : ℕ) → suc r < nodesOf t → ¬ (¬ Up t (parentOf t (suc r)) (nearest t r))
   unfolding ParentRight
   parent-up r h f = right (suc r) (bad-node h (bad-parent (λ p. f (p .1))))
 

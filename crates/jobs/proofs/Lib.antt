@@ -2,3 +2,4 @@ pub mod Decimals
 pub mod Job
 pub mod RoundTrip
 pub mod Texts
+pub mod Limits

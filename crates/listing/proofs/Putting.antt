@@ -69,25 +69,26 @@ pub unmarked : (table : List ℕ) (e d : ℕ) → getD table (e * maxRows + d) 0
 unmarked table e d h = rw (ne-eqb _ _ h)
 
 -- one more definition, one more row
-pub row-more : {list : List ℕ} {n : ℕ} (table : List ℕ) (e d : ℕ) {mid : List ℕ} {m : ℕ} {end : List ℕ} {r : ℕ} → PutPairs list n (rowPairs table e d) mid m → PutPairs mid m (pairIf table e d) end r → PutPairs list n (rowPairs table e (d + 1)) end r
+module _ {list : List ℕ} {n : ℕ} (table definitions : List ℕ) {mid : List ℕ} {m : ℕ} {end : List ℕ} {r : ℕ} where
+  pub row-more : (e k : ℕ) → PutPairs list n (rowPairs table definitions e k) mid m → PutPairs mid m (pairIf table e (getD definitions k 0)) end r → PutPairs list n (rowPairs table definitions e (k + 1)) end r
+  unfolding rowPairs
+  row-more e k p q = let z : k + 1 ≡ suc k = omega arith in rw z (put-more p q)
+
+  pub rows-more : (e : ℕ) → PutPairs list n (markedPairs table definitions e) mid m → PutPairs mid m (rowPairs table definitions e (length definitions)) end r → PutPairs list n (markedPairs table definitions (e + 1)) end r
+  unfolding markedPairs
+  rows-more e p q = let z : e + 1 ≡ suc e = omega arith in rw z (put-more p q)
+
+pub no-row : (table definitions : List ℕ) (e : ℕ) → rowPairs table definitions e 0 ≡ []
 unfolding rowPairs
-row-more table e d p q = let z : d + 1 ≡ suc d = omega arith in rw z (put-more p q)
+no-row table definitions e = refl
 
-pub rows-more : {list : List ℕ} {n : ℕ} (table : List ℕ) (definitions e : ℕ) {mid : List ℕ} {m : ℕ} {end : List ℕ} {r : ℕ} → PutPairs list n (markedPairs table definitions e) mid m → PutPairs mid m (rowPairs table e definitions) end r → PutPairs list n (markedPairs table definitions (e + 1)) end r
-unfolding markedPairs
-rows-more table definitions e p q = let z : e + 1 ≡ suc e = omega arith in rw z (put-more p q)
-
-pub no-row : (table : List ℕ) (e : ℕ) → rowPairs table e 0 ≡ []
-unfolding rowPairs
-no-row table e = refl
-
-pub no-rows : (table : List ℕ) (definitions : ℕ) → markedPairs table definitions 0 ≡ []
+pub no-rows : (table definitions : List ℕ) → markedPairs table definitions 0 ≡ []
 unfolding markedPairs
 no-rows table definitions = refl
 
 -- the answers of the listing
-module _ (table : List ℕ) (rows definitions room : ℕ) where
-  pub no-list : {list : List ℕ} {r : Listed} → r ≡ TooShort → list ≡ zeros room → (rows ≤ maxNodes → definitions ≤ maxRows → room < length (markedPairs table definitions rows) * 2) → ListsPairs table rows definitions room list r
+module _ (table definitions : List ℕ) (rows room : ℕ) where
+  pub no-list : {list : List ℕ} {r : Listed} → r ≡ TooShort → list ≡ zeros room → (rows ≤ maxNodes → length definitions ≤ maxRows → room < length (markedPairs table definitions rows) * 2) → ListsPairs table definitions rows room list r
   no-list e z h = record {
     listed = λ n f. let k : TooShort ≡ Pairs n = sym e ∙ f in let y : _≡_ {A = ℕ} 0 1 = cc in absurd (omega arith);
     too-short = λ f. h;
@@ -95,7 +96,7 @@ module _ (table : List ℕ) (rows definitions room : ℕ) where
     zeroed = λ f. z;
   }
 
-  pub whole-list : {list : List ℕ} {m : ℕ} → m * 2 ≤ room → PutPairs (zeros room) 0 (markedPairs table definitions rows) list m → ListsPairs table rows definitions room list (Pairs m)
+  pub whole-list : {list : List ℕ} {m : ℕ} → m * 2 ≤ room → PutPairs (zeros room) 0 (markedPairs table definitions rows) list m → ListsPairs table definitions rows room list (Pairs m)
   whole-list {list} {m} h p =
       let k = p .number in
       let l = words-length (markedPairs table definitions rows) in

@@ -21,15 +21,15 @@ isMarked table e d = eqb (getD table (e * maxRows + d) 0) 1
 abbrev pub pairIf : List ℕ → ℕ → ℕ → List (ℕ × ℕ)
 pairIf table e d = cond (isMarked table e d) ((e, d) ∷ []) []
 
--- the marked definitions of row e below n
-unfoldable pub rowPairs : List ℕ → ℕ → ℕ → List (ℕ × ℕ)
-rowPairs table e zero = []
-rowPairs table e (suc n) = rowPairs table e n ++ pairIf table e n
+-- the marked ones among the first n definitions, for row e
+unfoldable pub rowPairs : List ℕ → List ℕ → ℕ → ℕ → List (ℕ × ℕ)
+rowPairs table definitions e zero = []
+rowPairs table definitions e (suc n) = rowPairs table definitions e n ++ pairIf table e (getD definitions n 0)
 
--- the marked pairs of the first rows, each with so many definitions
-unfoldable pub markedPairs : List ℕ → ℕ → ℕ → List (ℕ × ℕ)
+-- the marked pairs of the first n rows
+unfoldable pub markedPairs : List ℕ → List ℕ → ℕ → List (ℕ × ℕ)
 markedPairs table definitions zero = []
-markedPairs table definitions (suc n) = markedPairs table definitions n ++ rowPairs table n definitions
+markedPairs table definitions (suc n) = markedPairs table definitions n ++ rowPairs table definitions n (length definitions)
 
 -- pairs are put after n others, as far as they fit, and the new number is m
 pub record PutPairs (before : List ℕ) (n : ℕ) (pairs : List (ℕ × ℕ)) (after : List ℕ) (m : ℕ) : Type 0 where
@@ -37,8 +37,8 @@ pub record PutPairs (before : List ℕ) (n : ℕ) (pairs : List (ℕ × ℕ)) (a
   pub number : m ≡ n + length pairs
 
 -- the answer and the list of so many words, for at most 1,024 rows and 512 definitions
-pub record ListsPairs (table : List ℕ) (rows definitions room : ℕ) (list : List ℕ) (r : Listed) : Type 0 where
+pub record ListsPairs (table definitions : List ℕ) (rows room : ℕ) (list : List ℕ) (r : Listed) : Type 0 where
   pub listed : (n : ℕ) → r ≡ Pairs n → (n ≡ length (markedPairs table definitions rows)) × (list ≡ laid room (pairWords (markedPairs table definitions rows)))
-  pub too-short : r ≡ TooShort → rows ≤ maxNodes → definitions ≤ maxRows → room < length (markedPairs table definitions rows) * 2
+  pub too-short : r ≡ TooShort → rows ≤ maxNodes → length definitions ≤ maxRows → room < length (markedPairs table definitions rows) * 2
   pub fits : (n : ℕ) → r ≡ Pairs n → n * 2 ≤ room
   pub zeroed : r ≡ TooShort → list ≡ zeros room

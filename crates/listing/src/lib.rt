@@ -41,46 +41,47 @@ fn put_marked(table: &[u8], e: u32, d: u32, list: &mut [u32], n: u32) -> u32
 }
 
 // The marked definitions of one row.
-fn put_row(table: &[u8], e: u32, definitions: u32, list: &mut [u32], n: u32) -> u32
-    requires { ⌜ (e < 1024) × (definitions ≤ 512) × (n ≤ 524288) ⌝ }
-    ensures { λ r. ⌜ PutPairs (now (list .entry)) n (rowPairs (now (table .entry)) e definitions) (now (list .exit)) r ⌝ }
-    ensures few { λ r. ⌜ r ≤ n + definitions ⌝ }
+fn put_row(table: &[u8], definitions: &[u32], e: u32, list: &mut [u32], n: u32) -> u32
+    requires { ⌜ (e < 1024) × (length (now definitions) ≤ 512) × (n ≤ 524288) ⌝ }
+    ensures { λ r. ⌜ PutPairs (now (list .entry)) n (rowPairs (now (table .entry)) (now (definitions .entry)) e (length (now (definitions .entry)))) (now (list .exit)) r ⌝ }
+    ensures few { λ r. ⌜ r ≤ n + length (now (definitions .entry)) ⌝ }
 {
-    let mut d: u32 = 0;
+    let mut k = 0;
     let mut m = n;
-    while d < definitions {
+    while k < definitions.len() {
+        let d = tables::word(definitions, k);
         m = put_marked(table, e, d, list, m);
-        d += 1;
+        k += 1;
     }
     m
 }
 
 // The marked pairs of all rows, in order, and their number.
-fn put_rows(table: &[u8], rows: u32, definitions: u32, list: &mut [u32]) -> u32
-    requires { ⌜ (rows ≤ 1024) × (definitions ≤ 512) ⌝ }
-    ensures { λ r. ⌜ PutPairs (now (list .entry)) 0 (markedPairs (now (table .entry)) definitions rows) (now (list .exit)) r ⌝ }
+fn put_rows(table: &[u8], definitions: &[u32], rows: u32, list: &mut [u32]) -> u32
+    requires { ⌜ (rows ≤ 1024) × (length (now definitions) ≤ 512) ⌝ }
+    ensures { λ r. ⌜ PutPairs (now (list .entry)) 0 (markedPairs (now (table .entry)) (now (definitions .entry)) rows) (now (list .exit)) r ⌝ }
 {
     let mut e: u32 = 0;
     let mut n: u32 = 0;
     while e < rows {
-        n = put_row(table, e, definitions, list, n);
+        n = put_row(table, definitions, e, list, n);
         e += 1;
     }
     n
 }
 
-// The marked pairs of the first rows in order in a lent list, and zeros after them; zeros throughout where the list is too short.
-pub fn list_pairs(table: &[u8], rows: u32, definitions: u32, list: &mut [u32]) -> Listed
-    ensures { λ r. ⌜ ListsPairs (now (table .entry)) rows definitions (length (now (list .entry))) (now (list .exit)) r ⌝ }
+// The marked pairs of the first rows with the definitions in a lent list, and zeros after them; zeros throughout where the list is too short.
+pub fn list_pairs(table: &[u8], definitions: &[u32], rows: u32, list: &mut [u32]) -> Listed
+    ensures { λ r. ⌜ ListsPairs (now (table .entry)) (now (definitions .entry)) rows (length (now (list .entry))) (now (list .exit)) r ⌝ }
 {
     tables::zero_u32(list);
     if 1024 < rows {
         return Listed::TooShort;
     }
-    if 512 < definitions {
+    if 512 < definitions.len() {
         return Listed::TooShort;
     }
-    let n = put_rows(table, rows, definitions, list);
+    let n = put_rows(table, definitions, rows, list);
     if list.len() < n as usize * 2 {
         tables::zero_u32(list);
         return Listed::TooShort;

@@ -15,8 +15,8 @@ use Rattle.schema.specs.Kinds as kind
 use Rattle.schema.specs.Relations.{connective}
 use Rattle.schema.specs.Rows.{kindOf, aOf, bOf}
 use Rattle.schema.specs.Views.{Pattern, notAllowed, noPattern, patternBy, patternOf}
-use Rattle.sets.specs.Relations.{Or, And, Then}
-use Rattle.sets.specs.Words.{Holds, Is, Empty, Gap, Single, Up, front, next}
+use Rattle.relations.specs.Relations.{Or, And, Then}
+use Rattle.relations.specs.Words.{Holds, Is, Empty, Gap, Single, Up, front, next}
 use Rattle.sets.proofs.Members.{and-has, none-has}
 use Rattle.rules.proofs.Booleans.{and-left, and-right, is-false}
 use Rattle.rules.proofs.Passing.{restricted}
@@ -53,49 +53,49 @@ module _ (s : List ℕ) (p : ℕ) where
 
   -- ---- a row without operands, where kind and mark are what was read
 
-  module _ (marks : List ℕ) {w : List ℕ} {a k κ mark : ℕ} (is-kind : κ ≡ kindOf s p) (is-mark : mark ≡ getD marks p 0) where
-    pub answers-empty : κ ≡ 1 → Is w (Where (a ≡ 0) (Gap k)) → AnswersLeaf s marks a k p w
+  module _ (marks : List ℕ) {w : List ℕ} {m a k κ mark : ℕ} (is-kind : κ ≡ kindOf s p) (is-mark : mark ≡ getD marks p 0) where
+    pub answers-empty : κ ≡ 1 → Is w (Where (a ≡ 0) (Gap m k)) → AnswersLeaf s marks m a k p w
     unfolding patternBy
-    answers-empty e is c named taken single S asked row = related-empty S asked row w (by-kind (sym is-kind ∙ e)) is
+    answers-empty e is c named taken single S asked row = related-empty S m asked row w (by-kind (sym is-kind ∙ e)) is
 
-    pub answers-text : k < 2 ^ 64 → mark < 2 ^ 64 → κ ≡ 3 → Is w (Where (a ≡ 0) (Gap (bitAnd k (2 ^ 64 - 1 - mark)))) → AnswersLeaf s marks a k p w
+    pub answers-text : k < 2 ^ 64 → mark < 2 ^ 64 → κ ≡ 3 → Is w (Where (a ≡ 0) (Gap m (bitAnd k (2 ^ 64 - 1 - mark)))) → AnswersLeaf s marks m a k p w
     unfolding patternBy
     answers-text hk hm e is c named taken single S asked row =
-        related-text S asked row w hk (subst (λ (n : ℕ). n < 2 ^ 64) is-mark hm) (by-kind (sym is-kind ∙ e)) (subst (λ (n : ℕ). Is w (Where (a ≡ 0) (Gap (bitAnd k (2 ^ 64 - 1 - n))))) is-mark is)
+        related-text S m asked row w hk (subst (λ (n : ℕ). n < 2 ^ 64) is-mark hm) (by-kind (sym is-kind ∙ e)) (subst (λ (n : ℕ). Is w (Where (a ≡ 0) (Gap m (bitAnd k (2 ^ 64 - 1 - n))))) is-mark is)
 
-    module _ (is : Is w (Where (a ≡ 0) (Single k mark))) where
-      marked : Is w (Where (a ≡ 0) (Single k (getD marks p 0)))
-      marked = subst (λ (n : ℕ). Is w (Where (a ≡ 0) (Single k n))) is-mark is
+    module _ (is : Is w (Where (a ≡ 0) (Single m k mark))) where
+      marked : Is w (Where (a ≡ 0) (Single m k (getD marks p 0)))
+      marked = subst (λ (n : ℕ). Is w (Where (a ≡ 0) (Single m k n))) is-mark is
 
-      answers-data : κ ≡ 4 → AnswersLeaf s marks a k p w
+      answers-data : κ ≡ 4 → AnswersLeaf s marks m a k p w
       unfolding patternBy
       answers-data e c named taken single S asked row = go (eqb (bOf s p) kind.none) refl
         where
-          go : (b : Bool) → eqb (bOf s p) kind.none ≡ b → Is w (Related S a k p)
-          go true f = related-dataAll S asked row w {t = aOf s p} (by-kind (sym is-kind ∙ e) ∙ rw f) marked
-          go false f = related-dataExcept S asked row w {t = aOf s p} {q = bOf s p} (by-kind (sym is-kind ∙ e) ∙ rw f) marked
+          go : (b : Bool) → eqb (bOf s p) kind.none ≡ b → Is w (Related S m a k p)
+          go true f = related-dataAll S m asked row w {t = aOf s p} (by-kind (sym is-kind ∙ e) ∙ rw f) marked
+          go false f = related-dataExcept S m asked row w {t = aOf s p} {q = bOf s p} (by-kind (sym is-kind ∙ e) ∙ rw f) marked
 
-      answers-value : κ ≡ 5 → AnswersLeaf s marks a k p w
+      answers-value : κ ≡ 5 → AnswersLeaf s marks m a k p w
       unfolding patternBy
-      answers-value e c named taken single S asked row = related-value S asked row w (by-kind (sym is-kind ∙ e)) marked
+      answers-value e c named taken single S asked row = related-value S m asked row w (by-kind (sym is-kind ∙ e)) marked
 
-      answers-ref : κ ≡ 8 → AnswersLeaf s marks a k p w
+      answers-ref : κ ≡ 8 → AnswersLeaf s marks m a k p w
       unfolding patternBy
-      answers-ref e c named taken single S asked row = related-ref S asked row w (by-kind (sym is-kind ∙ e)) marked
+      answers-ref e c named taken single S asked row = related-ref S m asked row w (by-kind (sym is-kind ∙ e)) marked
 
       -- data, value and ref take one item
-      pub answers-item : (κ ≡ 8) ⊎ ((4 ≤ κ) × (κ < 6)) → AnswersLeaf s marks a k p w
+      pub answers-item : (κ ≡ 8) ⊎ ((4 ≤ κ) × (κ < 6)) → AnswersLeaf s marks m a k p w
       answers-item (inl e) = answers-ref e
-      answers-item (inr (l, u)) = ⊎-elim (λ e. answers-data (sym e)) (λ m. answers-value (omega arith)) (eq-or-lt-of-le l)
+      answers-item (inr (l, u)) = ⊎-elim (λ e. answers-data (sym e)) (λ n. answers-value (omega arith)) (eq-or-lt-of-le l)
 
-    pub answers-attribute : κ ≡ 7 → Is w (Where (OneIn a mark) (Gap k)) → AnswersLeaf s marks a k p w
+    pub answers-attribute : κ ≡ 7 → Is w (Where (OneIn a mark) (Gap m k)) → AnswersLeaf s marks m a k p w
     unfolding patternBy
     answers-attribute e is c named taken single S asked row =
-        related-attribute S asked row w (by-kind (sym is-kind ∙ e)) (subst (λ (n : ℕ). Is w (Where (OneIn a n) (Gap k))) is-mark is)
+        related-attribute S m asked row w (by-kind (sym is-kind ∙ e)) (subst (λ (n : ℕ). Is w (Where (OneIn a n) (Gap m k))) is-mark is)
 
-    pub answers-nothing : κ ≢ 1 → κ ≢ 3 → κ ≢ 4 → κ ≢ 5 → κ ≢ 8 → κ ≢ 7 → Is w Empty → AnswersLeaf s marks a k p w
+    pub answers-nothing : κ ≢ 1 → κ ≢ 3 → κ ≢ 4 → κ ≢ 5 → κ ≢ 8 → κ ≢ 7 → Is w Empty → AnswersLeaf s marks m a k p w
     answers-nothing n₁ n₃ n₄ n₅ n₈ n₇ is c named taken single S asked row =
-        related-nothing S asked row w (nothing-made (subst (λ (n : ℕ). Makes n (aOf s p) (bOf s p) (patternOf s p)) (sym is-kind) (row-makes s p refl)) n₁ n₃ n₄ n₅ n₈ n₇ (subst (λ (n : ℕ). connective n ≡ false) (sym is-kind) c)) is
+        related-nothing S m asked row w (nothing-made (subst (λ (n : ℕ). Makes n (aOf s p) (bOf s p) (patternOf s p)) (sym is-kind) (row-makes s p refl)) n₁ n₃ n₄ n₅ n₈ n₇ (subst (λ (n : ℕ). connective n ≡ false) (sym is-kind) c)) is
 
   -- ---- a row with operands
 
@@ -107,66 +107,66 @@ module _ (s : List ℕ) (p : ℕ) where
   read-at : (table : List ℕ) {q n : ℕ} → q ≡ aOf s p → n ≡ getD table q 0 → n ≡ getD table (aOf s p) 0
   read-at table f g = g ∙ ap (λ (r : ℕ). getD table r 0) f
 
-  module _ {marks named taken single w : List ℕ} {a k : ℕ} where
+  module _ {marks named taken single w : List ℕ} {m a k : ℕ} where
     pub answers-oneOrMore : {w₁ : List ℕ} {q alone : ℕ} → a < 2 ^ 64 → kindOf s p ≡ 9 → q ≡ aOf s p → alone ≡ getD single q 0
-        → Answers s marks named taken single 0 k q w₁ → (Up (Holds w₁) → Is w (Repeats a k alone (Holds w₁))) → Answers s marks named taken single a k p w
+        → Answers s marks named taken single m 0 k q w₁ → (Up (Holds w₁) → Is w (Repeats m a k alone (Holds w₁))) → Answers s marks named taken single m a k p w
     unfolding patternBy
     answers-oneOrMore {w₁} {q} {alone} ha e f g first is S asked row =
         let l = falls S (by-kind e) repeated in
-        related-oneOrMore S asked p (aOf s p) (omega arith) (by-kind e) ha
+        related-oneOrMore S m asked p (aOf s p) (omega arith) (by-kind e) ha
         (rw f at (first S (asked-part S asked (λ x h. absurd (none-has x h)) (λ x h. h)) (omega arith)))
         (λ up. rw (read-at single f g) at (is up))
 
     -- a oneOrMore whose operand is no smaller row is in no setting
-    pub answers-no-operand : {q : ℕ} → kindOf s p ≡ 9 → q ≡ aOf s p → ¬ (q < p) → Answers s marks named taken single a k p w
+    pub answers-no-operand : {q : ℕ} → kindOf s p ≡ 9 → q ≡ aOf s p → ¬ (q < p) → Answers s marks named taken single m a k p w
     unfolding patternBy
     answers-no-operand e f n S asked row = absurd (n (subst (λ (q : ℕ). q < p) (sym f) (falls S (by-kind e) repeated)))
 
-    pub answers-choice : {v : List ℕ} → kindOf s p ≡ 10 → 64 * (p + 1) ≤ length v → Operands s marks named taken single p a k a k v
-        → (128 ≤ length v → Is w (Or (Holds (front v)) (Holds (next v)))) → Answers s marks named taken single a k p w
+    pub answers-choice : {v : List ℕ} → kindOf s p ≡ 10 → m ≤ 64 → 64 * (p + 1) ≤ length v → Operands s marks named taken single m p a k a k v
+        → (m ≤ 64 → 64 + m ≤ length v → Is w (Or (Holds (front m v)) (Holds (next m v)))) → Answers s marks named taken single m a k p w
     unfolding patternBy
-    answers-choice e h both is S asked row =
+    answers-choice e few h both is S asked row =
         let l₁ = falls S (by-kind e) choice-first in
         let l₂ = falls S (by-kind e) choice-second in
-        related-choice S asked p (aOf s p) (bOf s p) (by-kind e) (both .first l₁ l₂ S asked (omega arith)) (both .second l₁ l₂ S asked (omega arith)) (is (omega arith))
+        related-choice S m asked p (aOf s p) (bOf s p) (by-kind e) (both .first l₁ l₂ S asked (omega arith)) (both .second l₁ l₂ S asked (omega arith)) (is few (omega arith))
 
     -- q, n and t are what was read: the first operand, and its words
     module _ {v : List ℕ} {q n : ℕ} (ha : a < 2 ^ 64) (hn : n < 2 ^ 64) (f : q ≡ aOf s p) (g : n ≡ getD named q 0) where
-      pub answers-group : kindOf s p ≡ 11 → 64 * (p + 1) ≤ length v → Operands s marks named taken single p (bitAnd a n) k (bitAnd a (2 ^ 64 - 1 - n)) k v → (128 ≤ length v → Is w (Then (Holds (front v)) (Holds (next v))))
-          → Answers s marks named taken single a k p w
+      pub answers-group : kindOf s p ≡ 11 → m ≤ 64 → 64 * (p + 1) ≤ length v → Operands s marks named taken single m p (bitAnd a n) k (bitAnd a (2 ^ 64 - 1 - n)) k v → (m ≤ 64 → 64 + m ≤ length v → Is w (Then (Holds (front m v)) (Holds (next m v))))
+          → Answers s marks named taken single m a k p w
       unfolding patternBy
-      answers-group e h both is S asked row =
+      answers-group e few h both is S asked row =
           let l₁ = falls S (by-kind e) group-first in
           let l₂ = falls S (by-kind e) group-second in
           let is-named = read-at named f g in
           let x = both .first l₁ l₂ S (asked-part S asked (λ x h. and-has a n x h .0) (λ x h. h)) (omega arith) in
           let y = both .second l₁ l₂ S (asked-part S asked (λ x h. and-has a (2 ^ 64 - 1 - n) x h .0) (λ x h. h)) (omega arith) in
-          related-group S asked p (aOf s p) (bOf s p) (omega arith) ha (rw is-named at hn) (by-kind e) (rw is-named at x) (rw is-named at y) (is (omega arith))
+          related-group S m asked p (aOf s p) (bOf s p) (omega arith) ha (rw is-named at hn) (by-kind e) (rw is-named at x) (rw is-named at y) (is few (omega arith))
 
-      pub answers-interleave : {t : ℕ} → k < 2 ^ 64 → t < 2 ^ 64 → t ≡ getD taken q 0 → kindOf s p ≡ 12 → 64 * (p + 1) ≤ length v
-          → Operands s marks named taken single p (bitAnd a n) (bitAnd k t) (bitAnd a (2 ^ 64 - 1 - n)) (bitAnd k (2 ^ 64 - 1 - t)) v → (128 ≤ length v → Is w (And (Holds (front v)) (Holds (next v))))
-          → Answers s marks named taken single a k p w
+      pub answers-interleave : {t : ℕ} → k < 2 ^ 64 → t < 2 ^ 64 → t ≡ getD taken q 0 → kindOf s p ≡ 12 → m ≤ 64 → 64 * (p + 1) ≤ length v
+          → Operands s marks named taken single m p (bitAnd a n) (bitAnd k t) (bitAnd a (2 ^ 64 - 1 - n)) (bitAnd k (2 ^ 64 - 1 - t)) v → (m ≤ 64 → 64 + m ≤ length v → Is w (And (Holds (front m v)) (Holds (next m v))))
+          → Answers s marks named taken single m a k p w
       unfolding patternBy
-      answers-interleave {t} hk ht r e h both is S asked row =
+      answers-interleave {t} hk ht r e few h both is S asked row =
           let l₁ = falls S (by-kind e) interleave-first in
           let l₂ = falls S (by-kind e) interleave-second in
           let is-named = read-at named f g in
           let is-taken = read-at taken f r in
           let x = both .first l₁ l₂ S (asked-part S asked (λ x h. and-has a n x h .0) (λ x h. and-has k t x h .0)) (omega arith) in
           let y = both .second l₁ l₂ S (asked-part S asked (λ x h. and-has a (2 ^ 64 - 1 - n) x h .0) (λ x h. and-has k (2 ^ 64 - 1 - t) x h .0)) (omega arith) in
-          related-interleave S asked p (aOf s p) (bOf s p) (omega arith) ha (rw is-named at hn) hk (rw is-taken at ht) (by-kind e) (rw (is-named, is-taken) at x) (rw (is-named, is-taken) at y) (is (omega arith))
+          related-interleave S m asked p (aOf s p) (bOf s p) (omega arith) ha (rw is-named at hn) hk (rw is-taken at ht) (by-kind e) (rw (is-named, is-taken) at x) (rw (is-named, is-taken) at y) (is few (omega arith))
 
   -- ---- the operands themselves: the second is related in the part of the words from 64 on, and p₁ and p₂ are what was read
 
-  module _ {marks named taken single : List ℕ} {a₁ k₁ a₂ k₂ p₁ p₂ : ℕ} where
-    pub operands-related : (n : ℕ) (v u : List ℕ) → 64 ≤ length v → 64 ≤ length u → p₁ ≡ aOf s p → p₂ ≡ bOf s p
-        → Answers s marks named taken single a₁ k₁ p₁ (front v) → Answers s marks named taken single a₂ k₂ p₂ (front u) → Operands s marks named taken single p a₁ k₁ a₂ k₂ (putMid 64 n v u)
-    operands-related n v u hv hu e f first second = record {
-      first = λ l₁ l₂. rw (front-put n v u hv) (rw e at first);
-      second = λ l₁ l₂. rw (next-put n v u hv hu) (rw f at second);
+  module _ {marks named taken single : List ℕ} {m a₁ k₁ a₂ k₂ p₁ p₂ : ℕ} where
+    pub operands-related : m ≤ 64 → (n : ℕ) (v u : List ℕ) → 64 ≤ length v → m ≤ length u → p₁ ≡ aOf s p → p₂ ≡ bOf s p
+        → Answers s marks named taken single m a₁ k₁ p₁ (front m v) → Answers s marks named taken single m a₂ k₂ p₂ (front m u) → Operands s marks named taken single m p a₁ k₁ a₂ k₂ (putMid 64 n v u)
+    operands-related few n v u hv hu e f first second = record {
+      first = λ l₁ l₂. rw (front-put few n v u hv) (rw e at first);
+      second = λ l₁ l₂. rw (next-put few n v u hv hu) (rw f at second);
     }
 
-    pub no-operands : {w : List ℕ} → p₁ ≡ aOf s p → p₂ ≡ bOf s p → (p₁ < p → p₂ < p → ⊥) → Operands s marks named taken single p a₁ k₁ a₂ k₂ w
+    pub no-operands : {w : List ℕ} → p₁ ≡ aOf s p → p₂ ≡ bOf s p → (p₁ < p → p₂ < p → ⊥) → Operands s marks named taken single m p a₁ k₁ a₂ k₂ w
     no-operands e f n = record { first = λ l₁ l₂. absurd (n (rw e l₁) (rw f l₂)); second = λ l₁ l₂. absurd (n (rw e l₁) (rw f l₂)) }
 
 -- a kind that is none of the four connectives

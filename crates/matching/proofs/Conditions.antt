@@ -8,11 +8,11 @@ use native.Mathlib.Omega.{arith}
 use lib.Bits.{bitAnd}
 use lib.Count.{ones}
 use lib.ListN.{length, take}
-use lib.Seq.{drop-at, take-append-le, length-take-le}
+use lib.Seq.{drop-at, take-append-le, take-take, length-take-le}
 use borrow.Rule.Slice.PartMut.{putMid, postOf, take-put}
 use Rattle.sets.specs.Bits.{positions, bit}
-use Rattle.sets.specs.Relations.{Relation, Or, Plus}
-use Rattle.sets.specs.Words.{Holds, Is, Empty, Gap, front, next}
+use Rattle.relations.specs.Relations.{Relation, Or, Plus}
+use Rattle.relations.specs.Words.{Holds, Is, Empty, Gap, front, next}
 use Rattle.sets.proofs.Bits.{subset-test}
 use Rattle.sets.proofs.Members.{none-has}
 use Rattle.sets.proofs.Ones.{one-member}
@@ -40,30 +40,31 @@ module _ (a marked : ℕ) (ha : a < 2 ^ 64) (hm : marked < 2 ^ 64) where
 
 -- ---- a run of words of which the part from 64 on was lent, and came back as u
 
-pub front-put : (n : ℕ) (v u : List ℕ) → positions ≤ length v → front (putMid 64 n v u) ≡ front v
-front-put n v u h = take-put 64 n v u h
+module _ {m : ℕ} (few : m ≤ positions) (n : ℕ) (v u : List ℕ) (room : positions ≤ length v) where
+  pub front-put : front m (putMid 64 n v u) ≡ front m v
+  front-put = sym (take-take m 64 (putMid 64 n v u) few) ∙ ap (take m) (take-put 64 n v u room) ∙ take-take m 64 v few
 
-pub next-put : (n : ℕ) (v u : List ℕ) → positions ≤ length v → positions ≤ length u → next (putMid 64 n v u) ≡ front u
-next-put n v u hv hu = ap (take 64) (drop-at (take 64 v) (u ++ postOf 64 n v) 64 (length-take-le 64 v hv)) ∙ take-append-le 64 u (postOf 64 n v) hu
+  pub next-put : m ≤ length u → next m (putMid 64 n v u) ≡ front m u
+  next-put h = ap (take m) (drop-at (take 64 v) (u ++ postOf 64 n v) 64 (length-take-le 64 v room)) ∙ take-append-le m u (postOf 64 n v) h
 
 -- ---- repetitions
 
-module _ (a k alone : ℕ) (R : Relation) (ha : a < 2 ^ 64) (hl : alone < 2 ^ 64) where
+module _ (m a k alone : ℕ) (R : Relation) (ha : a < 2 ^ 64) (hl : alone < 2 ^ 64) where
   within : bitAnd a (2 ^ 64 - 1 - alone) ≡ 0 → Within a alone
   within z = subset-test 64 a alone ha hl .0 z
 
-  pub repeats-none : {w : List ℕ} → ¬ (bitAnd a (2 ^ 64 - 1 - alone) ≡ 0) → Is w Empty → Is w (Repeats a k alone R)
+  pub repeats-none : {w : List ℕ} → ¬ (bitAnd a (2 ^ 64 - 1 - alone) ≡ 0) → Is w Empty → Is w (Repeats m a k alone R)
   repeats-none n is = where-fails (λ h. n (subset-test 64 a alone ha hl .1 h)) is
 
-  pub repeats-items : {w : List ℕ} → a ≡ 0 → Is w (Plus R) → Is w (Repeats a k alone R)
+  pub repeats-items : {w : List ℕ} → a ≡ 0 → Is w (Plus R) → Is w (Repeats m a k alone R)
   repeats-items z is =
       where-holds (λ x h. absurd (none-has x (subst (λ (n : ℕ). bit n x ≡ true) z h)))
       (record { sound = λ i j e. inl (is .sound i j e); complete = λ i j r. elim r [ inl q ↦ is .complete i j q | inr g ↦ absurd (let l = g .0 in omega arith) ] })
 
-  pub repeats-beside : (n : ℕ) (v u : List ℕ) {w : List ℕ} → positions ≤ length v → positions ≤ length u → bitAnd a (2 ^ 64 - 1 - alone) ≡ 0 → 0 < a
-      → Is (front v) (Plus R) → Is (front u) (Gap k) → Is w (Or (Holds (front (putMid 64 n v u))) (Holds (next (putMid 64 n v u)))) → Is w (Repeats a k alone R)
-  repeats-beside n v u {w} hv hu z l is₁ is₂ is =
-      let both : Is w (Or (Holds (front v)) (Holds (front u))) = rw (front-put n v u hv, next-put n v u hv hu) at is in
+  pub repeats-beside : m ≤ positions → (n : ℕ) (v u : List ℕ) {w : List ℕ} → positions ≤ length v → m ≤ length u → bitAnd a (2 ^ 64 - 1 - alone) ≡ 0 → 0 < a
+      → Is (front m v) (Plus R) → Is (front m u) (Gap m k) → Is w (Or (Holds (front m (putMid 64 n v u))) (Holds (next m (putMid 64 n v u)))) → Is w (Repeats m a k alone R)
+  repeats-beside few n v u {w} hv hu z l is₁ is₂ is =
+      let both : Is w (Or (Holds (front m v)) (Holds (front m u))) = rw (front-put few n v u hv, next-put few n v u hv hu) at is in
       where-holds (within z)
       (record {
         sound = λ i j e. ⊎-map (is₁ .sound i j) (λ g. (l, is₂ .sound i j g)) (both .sound i j e);

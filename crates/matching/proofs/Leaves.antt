@@ -11,10 +11,10 @@ use lib.ListN.{getD}
 use borrow.Author.Tests.{eqb-true, eq-eqb, not-true, not-false}
 use Rattle.schema.specs.Rows.{rowsOf}
 use Rattle.schema.specs.Views.{empty, notAllowed, text, dataAll, dataExcept, value, attribute, ref, noPattern, patternOf}
-use Rattle.sets.specs.Bits.{positions, bit}
-use Rattle.sets.specs.Relations.{Relation}
-use Rattle.sets.specs.Words.{Is, Empty, Gap, Single}
-use Rattle.sets.proofs.Words.{is-map}
+use Rattle.sets.specs.Bits.{bit}
+use Rattle.relations.specs.Relations.{Relation}
+use Rattle.relations.specs.Words.{Is, Empty, Gap, Single}
+use Rattle.relations.proofs.Words.{is-map}
 use Rattle.sets.proofs.Bits.{bit-without}
 use Rattle.rules.specs.Items.{Item, element, string, Attributes, only, Lookups}
 use Rattle.rules.specs.Rules.{NotMatchBy}
@@ -58,7 +58,7 @@ module _ (L : Lookups) where
   is-string (element e) f = f e refl
   is-string (string s) f = tt
 
-module _ {s marks named taken single : List ℕ} (S : Setting s marks named taken single) {a k p : ℕ} (asked : Asked S a k) (row : p < rowsOf s) (w : List ℕ) where
+module _ {s marks named taken single : List ℕ} (S : Setting s marks named taken single) (m : ℕ) {a k p : ℕ} (asked : Asked S a k) (row : p < rowsOf s) (w : List ℕ) where
   abbrev L : Lookups
   L = lookups (S .bytes) (S .ends) s (S .t)
 
@@ -80,32 +80,32 @@ module _ {s marks named taken single : List ℕ} (S : Setting s marks named take
 
   -- the pairs i, j whose items are as asked
   abbrev Between : (List Item → Type 0) → Relation
-  Between Wanted i j = (i ≤ j) × (j < positions) × Wanted (items i j)
+  Between Wanted i j = (i ≤ j) × (j < m) × Wanted (items i j)
 
-  no-item : (i j : ℕ) → Gap k i j ↔ Between (λ m. m ≡ []) i j
+  no-item : (i j : ℕ) → Gap m k i j ↔ Between (λ l. l ≡ []) i j
   no-item i j = (λ g. (g .0, g .1, run-empty (S .it) K (g .0) .1 (g .2)), λ b. (b .0, b .1, run-empty (S .it) K (b .0) .0 (b .2)))
 
   -- no attributes, and items as asked
   without-attributes : (Wanted : List Item → Type 0) {R : Relation} → ((i j : ℕ) → Span L N A (S .it) K p i j ↔ ItemsOnly A (S .it) K Wanted i j)
-      → ((i j : ℕ) → R i j ↔ Between Wanted i j) → Is w (Where (a ≡ 0) R) → Is w (Related S a k p)
+      → ((i j : ℕ) → R i j ↔ Between Wanted i j) → Is w (Where (a ≡ 0) R) → Is w (Related S m a k p)
   without-attributes Wanted {R} span same is = is-map is (λ i j. (to i j, from i j))
     where
-      to : (i j : ℕ) → Where (a ≡ 0) R i j → Related S a k p i j
+      to : (i j : ℕ) → Where (a ≡ 0) R i j → Related S m a k p i j
       to i j r =
           let b = same i j .0 (r .1) in
           (b .1, span i j .1 (record { ordered = b .0; free = ap (attributesIn (S .element)) (r .0) ∙ no-attributes (S .element); items = b .2 }))
 
-      from : (i j : ℕ) → Related S a k p i j → Where (a ≡ 0) R i j
+      from : (i j : ℕ) → Related S m a k p i j → Where (a ≡ 0) R i j
       from i j r =
           let o = span i j .0 (r .1) in
           (attributes-none (S .element) a (o .free), same i j .1 (o .ordered, r .0, o .items))
 
-  pub related-empty : patternOf s p ≡ empty → Is w (Where (a ≡ 0) (Gap k)) → Is w (Related S a k p)
-  related-empty e = without-attributes (λ m. m ≡ []) (λ i j. span-empty L N A (S .it) K p i j e) no-item
+  pub related-empty : patternOf s p ≡ empty → Is w (Where (a ≡ 0) (Gap m k)) → Is w (Related S m a k p)
+  related-empty e = without-attributes (λ l. l ≡ []) (λ i j. span-empty L N A (S .it) K p i j e) no-item
 
   -- text: an item of k that is no string is a stop
-  pub related-text : k < 2 ^ 64 → mark < 2 ^ 64 → patternOf s p ≡ text → Is w (Where (a ≡ 0) (Gap (bitAnd k (2 ^ 64 - 1 - mark)))) → Is w (Related S a k p)
-  related-text hk hm e = without-attributes (λ m. hasElement m ≡ false) (λ i j. span-text L N A (S .it) K p i j e) (λ i j. (to i j, from i j))
+  pub related-text : k < 2 ^ 64 → mark < 2 ^ 64 → patternOf s p ≡ text → Is w (Where (a ≡ 0) (Gap m (bitAnd k (2 ^ 64 - 1 - mark)))) → Is w (Related S m a k p)
+  related-text hk hm e = without-attributes (λ l. hasElement l ≡ false) (λ i j. span-text L N A (S .it) K p i j e) (λ i j. (to i j, from i j))
     where
       string-at : (x : ℕ) → K x ≡ true → (bit mark x ≡ true) ↔ IsString L (λ s. Unit {0}) (S .it x)
       string-at x h = rw e at (S .marked .leaf p row .leaves x (asked .of-items x h) (ap takesAny e))
@@ -113,7 +113,7 @@ module _ {s marks named taken single : List ℕ} (S : Setting s marks named take
       stop : (x : ℕ) → bit (bitAnd k (2 ^ 64 - 1 - mark)) x ≡ K x && not (bit mark x)
       stop x = bit-without 64 k mark x hk hm
 
-      to : (i j : ℕ) → Gap (bitAnd k (2 ^ 64 - 1 - mark)) i j → Between (λ m. hasElement m ≡ false) i j
+      to : (i j : ℕ) → Gap m (bitAnd k (2 ^ 64 - 1 - mark)) i j → Between (λ l. hasElement l ≡ false) i j
       to i j g = (g .0, g .1, run-strings (S .it) K (g .0) .1 strings)
         where
           strings : (x u : ℕ) → i ≤ x → x < j → K x ≡ true → ¬ (S .it x ≡ element u)
@@ -121,7 +121,7 @@ module _ {s marks named taken single : List ℕ} (S : Setting s marks named take
               let b : not (bit mark x) ≡ false = rw h at (sym (stop x) ∙ g .2 x l m) in
               not-element L (S .it x) (string-at x h .0 (not-false (bit mark x) b)) u
 
-      from : (i j : ℕ) → Between (λ m. hasElement m ≡ false) i j → Gap (bitAnd k (2 ^ 64 - 1 - mark)) i j
+      from : (i j : ℕ) → Between (λ l. hasElement l ≡ false) i j → Gap m (bitAnd k (2 ^ 64 - 1 - mark)) i j
       from i j b = (b .0, b .1, clear)
         where
           clear : (x : ℕ) → i ≤ x → x < j → bit (bitAnd k (2 ^ 64 - 1 - mark)) x ≡ false
@@ -133,11 +133,11 @@ module _ {s marks named taken single : List ℕ} (S : Setting s marks named take
               false≢true (sym f ∙ string-at x h .1 (is-string L (S .it x) (λ v. run-strings (S .it) K (b .0) .0 (b .2) x v l m h))))
 
   -- one item, as asked
-  one-item : (Wanted : List Item → Type 0) (T : Item → Type 0) → ((m : List Item) → Wanted m ↔ OneItem T m) → ((x : ℕ) → K x ≡ true → (bit mark x ≡ true) ↔ T (S .it x))
-      → ((i j : ℕ) → Span L N A (S .it) K p i j ↔ ItemsOnly A (S .it) K Wanted i j) → Is w (Where (a ≡ 0) (Single k mark)) → Is w (Related S a k p)
+  one-item : (Wanted : List Item → Type 0) (T : Item → Type 0) → ((l : List Item) → Wanted l ↔ OneItem T l) → ((x : ℕ) → K x ≡ true → (bit mark x ≡ true) ↔ T (S .it x))
+      → ((i j : ℕ) → Span L N A (S .it) K p i j ↔ ItemsOnly A (S .it) K Wanted i j) → Is w (Where (a ≡ 0) (Single m k mark)) → Is w (Related S m a k p)
   one-item Wanted T one marks span = without-attributes Wanted span (λ i j. (to i j, from i j))
     where
-      to : (i j : ℕ) → Single k mark i j → Between Wanted i j
+      to : (i j : ℕ) → Single m k mark i j → Between Wanted i j
       to i j g =
           let u = g .from in
           let v = g .to in
@@ -145,7 +145,7 @@ module _ {s marks named taken single : List ℕ} (S : Setting s marks named take
           let q = run-single (S .it) K (S .it (g .place)) l .1 (record { at = record { place = g .place; after = u; before = v; member = g .member; item = refl }; alone = g .only }) in
           (l, g .end, one (items i j) .1 (S .it (g .place), q, marks (g .place) (g .member) .0 (g .mark)))
 
-      from : (i j : ℕ) → Between Wanted i j → Single k mark i j
+      from : (i j : ℕ) → Between Wanted i j → Single m k mark i j
       from i j b =
           let o = one (items i j) .0 (b .2) in
           let r = run-single (S .it) K (o .0) (b .0) .0 (o .1) in
@@ -163,27 +163,27 @@ module _ {s marks named taken single : List ℕ} (S : Setting s marks named take
   takes-at : takesAny (patternOf s p) ≡ true → (x : ℕ) → K x ≡ true → (bit mark x ≡ true) ↔ Takes L (patternOf s p) (S .it x)
   takes-at any x h = S .marked .leaf p row .leaves x (asked .of-items x h) any
 
-  pub related-dataAll : {t : ℕ} → patternOf s p ≡ dataAll t → Is w (Where (a ≡ 0) (Single k mark)) → Is w (Related S a k p)
+  pub related-dataAll : {t : ℕ} → patternOf s p ≡ dataAll t → Is w (Where (a ≡ 0) (Single m k mark)) → Is w (Related S m a k p)
   related-dataAll e = one-item (One (λ s. Unit {0})) (IsString L (λ s. Unit {0})) (one-string L (λ s. Unit {0})) (λ x h. rw e at (takes-at (ap takesAny e) x h)) (λ i j. span-dataAll L N A (S .it) K p i j e)
 
-  pub related-dataExcept : {t q : ℕ} → patternOf s p ≡ dataExcept t q → Is w (Where (a ≡ 0) (Single k mark)) → Is w (Related S a k p)
+  pub related-dataExcept : {t q : ℕ} → patternOf s p ≡ dataExcept t q → Is w (Where (a ≡ 0) (Single m k mark)) → Is w (Related S m a k p)
   related-dataExcept {t} {q} e = one-item (One (λ s. N s q)) (IsString L (λ s. N s q)) (one-string L (λ s. N s q)) (λ x h. rw e at (takes-at (ap takesAny e) x h)) (λ i j. span-dataExcept L N A (S .it) K p i j e)
 
-  pub related-value : {t v : ℕ} → patternOf s p ≡ value t v → Is w (Where (a ≡ 0) (Single k mark)) → Is w (Related S a k p)
+  pub related-value : {t v : ℕ} → patternOf s p ≡ value t v → Is w (Where (a ≡ 0) (Single m k mark)) → Is w (Related S m a k p)
   related-value {t} {v} e =
       one-item (One (λ s. L .Equal t s (L .text v))) (IsString L (λ s. L .Equal t s (L .text v))) (one-string L (λ s. L .Equal t s (L .text v))) (λ x h. rw e at (takes-at (ap takesAny e) x h)) (λ i j. span-value L N A (S .it) K p i j e)
 
-  pub related-ref : {d : ℕ} → patternOf s p ≡ ref d → Is w (Where (a ≡ 0) (Single k mark)) → Is w (Related S a k p)
+  pub related-ref : {d : ℕ} → patternOf s p ≡ ref d → Is w (Where (a ≡ 0) (Single m k mark)) → Is w (Related S m a k p)
   related-ref {d} e = one-item (OnePaired L N d) (IsPaired L d) (one-paired L d) (λ x h. rw e at (takes-at (ap takesAny e) x h)) (λ i j. span-ref L N A (S .it) K p i j (asked .clean) e)
 
   -- one attribute, which the pattern takes, and no item
-  pub related-attribute : {nc q : ℕ} → patternOf s p ≡ attribute nc q → Is w (Where (OneIn a mark) (Gap k)) → Is w (Related S a k p)
+  pub related-attribute : {nc q : ℕ} → patternOf s p ≡ attribute nc q → Is w (Where (OneIn a mark) (Gap m k)) → Is w (Related S m a k p)
   related-attribute {nc} {q} e is = is-map is (λ i j. (to i j, from i j))
     where
       taken-at : (x : ℕ) → bit a x ≡ true → (bit mark x ≡ true) ↔ TakesAttribute L nc q (attributeRow (S .element) x)
       taken-at x h = S .marked .leaf p row .attribute-leaves nc q x e (asked .of-attributes x h)
 
-      to : (i j : ℕ) → Where (OneIn a mark) (Gap k) i j → Related S a k p i j
+      to : (i j : ℕ) → Where (OneIn a mark) (Gap m k) i j → Related S m a k p i j
       to i j r =
           let x = r .0 .0 in
           let o = r .0 .1 in
@@ -203,7 +203,7 @@ module _ {s marks named taken single : List ℕ} (S : Setting s marks named take
             ),
           )
 
-      from : (i j : ℕ) → Related S a k p i j → Where (OneIn a mark) (Gap k) i j
+      from : (i j : ℕ) → Related S m a k p i j → Where (OneIn a mark) (Gap m k) i j
       from i j r =
           let b = span-attribute L N A (S .it) K p i j e .0 (r .1) in
           let m = b .1 in
@@ -216,6 +216,6 @@ module _ {s marks named taken single : List ℕ} (S : Setting s marks named take
           )
 
   -- no match at all
-  pub related-nothing : (patternOf s p ≡ notAllowed) ⊎ (patternOf s p ≡ noPattern) → Is w Empty → Is w (Related S a k p)
+  pub related-nothing : (patternOf s p ≡ notAllowed) ⊎ (patternOf s p ≡ noPattern) → Is w Empty → Is w (Related S m a k p)
   related-nothing (inl e) is = is-map is (λ i j. (λ z. absurd z, λ r. span-notAllowed L N A (S .it) K p i j e (r .1)))
   related-nothing (inr e) is = is-map is (λ i j. (λ z. absurd z, λ r. span-noPattern L N A (S .it) K p i j e (r .1)))

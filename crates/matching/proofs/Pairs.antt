@@ -9,10 +9,10 @@ use lib.Bits.{bitAnd}
 use lib.ListN.{getD}
 use Rattle.schema.specs.Rows.{rowsOf}
 use Rattle.schema.specs.Views.{choice, group, interleave, patternOf}
-use Rattle.sets.specs.Bits.{positions, bit}
-use Rattle.sets.specs.Relations.{Relation, Or, And, Then}
-use Rattle.sets.specs.Words.{Holds, Is}
-use Rattle.sets.proofs.Words.{is-map}
+use Rattle.sets.specs.Bits.{bit}
+use Rattle.relations.specs.Relations.{Relation, Or, And, Then}
+use Rattle.relations.specs.Words.{Holds, Is}
+use Rattle.relations.proofs.Words.{is-map}
 use Rattle.rules.specs.Items.{Attributes, Lookups}
 use Rattle.rules.specs.Rules.{NotMatchBy}
 use Rattle.rules.specs.Job.{lookups}
@@ -40,7 +40,7 @@ module _ {w w₁ w₂ : List ℕ} {R R₁ R₂ : Relation} (is₁ : Is w₁ R₁
   is-then is same =
       is-map (is-map is (λ i j. (λ b. (b .0, is₁ .sound i (b .0) (b .1), is₂ .sound (b .0) j (b .2)), λ b. (b .0, is₁ .complete i (b .0) (b .1), is₂ .complete (b .0) j (b .2))))) same
 
-module _ {s marks named taken single : List ℕ} (S : Setting s marks named taken single) {a k : ℕ} (asked : Asked S a k) (p p₁ p₂ : ℕ) where
+module _ {s marks named taken single : List ℕ} (S : Setting s marks named taken single) (m : ℕ) {a k : ℕ} (asked : Asked S a k) (p p₁ p₂ : ℕ) where
   abbrev L : Lookups
   L = lookups (S .bytes) (S .ends) s (S .t)
 
@@ -53,14 +53,14 @@ module _ {s marks named taken single : List ℕ} (S : Setting s marks named take
   R : Restricted L
   R = restricted (S .passes) (S .bytes) (S .ends) (S .t)
 
-  pub related-choice : {w w₁ w₂ : List ℕ} → patternOf s p ≡ choice p₁ p₂ → Is w₁ (Related S a k p₁) → Is w₂ (Related S a k p₂) → Is w (Or (Holds w₁) (Holds w₂)) → Is w (Related S a k p)
+  pub related-choice : {w w₁ w₂ : List ℕ} → patternOf s p ≡ choice p₁ p₂ → Is w₁ (Related S m a k p₁) → Is w₂ (Related S m a k p₂) → Is w (Or (Holds w₁) (Holds w₂)) → Is w (Related S m a k p)
   related-choice e is₁ is₂ is = is-or is₁ is₂ is (λ i j. (to i j, from i j))
     where
-      to : (i j : ℕ) → Or (Related S a k p₁) (Related S a k p₂) i j → Related S a k p i j
+      to : (i j : ℕ) → Or (Related S m a k p₁) (Related S m a k p₂) i j → Related S m a k p i j
       to i j (inl r) = (r .0, span-choice L N A (S .it) (bit k) p i j e .1 (inl (r .1)))
       to i j (inr r) = (r .0, span-choice L N A (S .it) (bit k) p i j e .1 (inr (r .1)))
 
-      from : (i j : ℕ) → Related S a k p i j → Or (Related S a k p₁) (Related S a k p₂) i j
+      from : (i j : ℕ) → Related S m a k p i j → Or (Related S m a k p₁) (Related S m a k p₂) i j
       from i j r = ⊎-map (λ x. (r .0, x)) (λ x. (r .0, x)) (span-choice L N A (S .it) (bit k) p i j e .0 (r .1))
 
   -- the word of row p₁ tells which attributes and items are for the first operand
@@ -85,23 +85,23 @@ module _ {s marks named taken single : List ℕ} (S : Setting s marks named take
 
     module _ (ha : a < 2 ^ 64) (hn : n < 2 ^ 64) where
       -- the relations of the operands as spans
-      first : (K : ℕ → Bool) (l i j : ℕ) → bit l ≡ K → Related S (bitAnd a n) l p₁ i j ↔ ((j < positions) × Span L N (A ∩ P) (S .it) K p₁ i j)
+      first : (K : ℕ → Bool) (l i j : ℕ) → bit l ≡ K → Related S m (bitAnd a n) l p₁ i j ↔ ((j < m) × Span L N (A ∩ P) (S .it) K p₁ i j)
       first K l i j e = rw (attributes-both (S .element) a n, e) ((λ r. r), λ r. r)
 
-      second : (K : ℕ → Bool) (l i j : ℕ) → bit l ≡ K → Related S (bitAnd a (2 ^ 64 - 1 - n)) l p₂ i j ↔ ((j < positions) × Span L N (A ∖ P) (S .it) K p₂ i j)
+      second : (K : ℕ → Bool) (l i j : ℕ) → bit l ≡ K → Related S m (bitAnd a (2 ^ 64 - 1 - n)) l p₂ i j ↔ ((j < m) × Span L N (A ∖ P) (S .it) K p₂ i j)
       second K l i j e = rw (attributes-without (S .element) a n ha hn, e) ((λ r. r), λ r. r)
 
-      pub related-group : {w w₁ w₂ : List ℕ} → patternOf s p ≡ group p₁ p₂ → Is w₁ (Related S (bitAnd a n) k p₁) → Is w₂ (Related S (bitAnd a (2 ^ 64 - 1 - n)) k p₂)
-          → Is w (Then (Holds w₁) (Holds w₂)) → Is w (Related S a k p)
+      pub related-group : {w w₁ w₂ : List ℕ} → patternOf s p ≡ group p₁ p₂ → Is w₁ (Related S m (bitAnd a n) k p₁) → Is w₂ (Related S m (bitAnd a (2 ^ 64 - 1 - n)) k p₂)
+          → Is w (Then (Holds w₁) (Holds w₂)) → Is w (Related S m a k p)
       related-group e is₁ is₂ is = is-then is₁ is₂ is (λ i j. (to i j, from i j))
         where
-          to : (i j : ℕ) → Then (Related S (bitAnd a n) k p₁) (Related S (bitAnd a (2 ^ 64 - 1 - n)) k p₂) i j → Related S a k p i j
+          to : (i j : ℕ) → Then (Related S m (bitAnd a n) k p₁) (Related S m (bitAnd a (2 ^ 64 - 1 - n)) k p₂) i j → Related S m a k p i j
           to i j r =
               let x = first (bit k) k i (r .0) refl .0 (r .1) in
               let y = second (bit k) k (r .0) j refl .0 (r .2) in
               (y .0, span-group L N R A (S .it) (bit k) p p₁ p₂ P names i j e .1 (r .0, x .1, y .1))
 
-          from : (i j : ℕ) → Related S a k p i j → Then (Related S (bitAnd a n) k p₁) (Related S (bitAnd a (2 ^ 64 - 1 - n)) k p₂) i j
+          from : (i j : ℕ) → Related S m a k p i j → Then (Related S m (bitAnd a n) k p₁) (Related S m (bitAnd a (2 ^ 64 - 1 - n)) k p₂) i j
           from i j r =
               let x = span-group L N R A (S .it) (bit k) p p₁ p₂ P names i j e .0 (r .1) in
               let u = r .0 in
@@ -109,8 +109,8 @@ module _ {s marks named taken single : List ℕ} (S : Setting s marks named take
               (x .0, first (bit k) k i (x .0) refl .1 (omega arith, x .1), second (bit k) k (x .0) j refl .1 (u, x .2))
 
       pub related-interleave : {w w₁ w₂ : List ℕ} → k < 2 ^ 64 → t < 2 ^ 64 → patternOf s p ≡ interleave p₁ p₂
-          → Is w₁ (Related S (bitAnd a n) (bitAnd k t) p₁) → Is w₂ (Related S (bitAnd a (2 ^ 64 - 1 - n)) (bitAnd k (2 ^ 64 - 1 - t)) p₂)
-          → Is w (And (Holds w₁) (Holds w₂)) → Is w (Related S a k p)
+          → Is w₁ (Related S m (bitAnd a n) (bitAnd k t) p₁) → Is w₂ (Related S m (bitAnd a (2 ^ 64 - 1 - n)) (bitAnd k (2 ^ 64 - 1 - t)) p₂)
+          → Is w (And (Holds w₁) (Holds w₂)) → Is w (Related S m a k p)
       related-interleave hk ht e is₁ is₂ is = is-and is₁ is₂ is (λ i j. (to i j, from i j))
         where
           K₁ : bit (bitAnd k t) ≡ bit k ∩ bit t
@@ -119,13 +119,13 @@ module _ {s marks named taken single : List ℕ} (S : Setting s marks named take
           K₂ : bit (bitAnd k (2 ^ 64 - 1 - t)) ≡ bit k ∖ bit t
           K₂ = bits-without k t hk ht
 
-          to : (i j : ℕ) → And (Related S (bitAnd a n) (bitAnd k t) p₁) (Related S (bitAnd a (2 ^ 64 - 1 - n)) (bitAnd k (2 ^ 64 - 1 - t)) p₂) i j → Related S a k p i j
+          to : (i j : ℕ) → And (Related S m (bitAnd a n) (bitAnd k t) p₁) (Related S m (bitAnd a (2 ^ 64 - 1 - n)) (bitAnd k (2 ^ 64 - 1 - t)) p₂) i j → Related S m a k p i j
           to i j r =
               let x = first (bit k ∩ bit t) (bitAnd k t) i j K₁ .0 (r .0) in
               let y = second (bit k ∖ bit t) (bitAnd k (2 ^ 64 - 1 - t)) i j K₂ .0 (r .1) in
               (x .0, span-interleave L N R A (S .it) (bit k) p p₁ p₂ P names (bit t) takers (asked .clean) i j e .1 (x .1, y .1))
 
-          from : (i j : ℕ) → Related S a k p i j → And (Related S (bitAnd a n) (bitAnd k t) p₁) (Related S (bitAnd a (2 ^ 64 - 1 - n)) (bitAnd k (2 ^ 64 - 1 - t)) p₂) i j
+          from : (i j : ℕ) → Related S m a k p i j → And (Related S m (bitAnd a n) (bitAnd k t) p₁) (Related S m (bitAnd a (2 ^ 64 - 1 - n)) (bitAnd k (2 ^ 64 - 1 - t)) p₂) i j
           from i j r =
               let x = span-interleave L N R A (S .it) (bit k) p p₁ p₂ P names (bit t) takers (asked .clean) i j e .0 (r .1) in
               (first (bit k ∩ bit t) (bitAnd k t) i j K₁ .1 (r .0, x .0), second (bit k ∖ bit t) (bitAnd k (2 ^ 64 - 1 - t)) i j K₂ .1 (r .0, x .1))

@@ -10,12 +10,12 @@ use lib.Count.{trailingZeros}
 use lib.ListN.{getD}
 use Rattle.schema.specs.Rows.{rowsOf}
 use Rattle.schema.specs.Views.{oneOrMore, patternOf}
-use Rattle.sets.specs.Bits.{positions, bit}
-use Rattle.sets.specs.Relations.{Relation, Plus, once, more}
-use Rattle.sets.specs.Words.{Holds, Is, Up}
+use Rattle.sets.specs.Bits.{bit}
+use Rattle.relations.specs.Relations.{Relation, Plus, once, more}
+use Rattle.relations.specs.Words.{Holds, Is, Up}
 use Rattle.sets.proofs.Least.{trailing}
 use Rattle.sets.proofs.Members.{none-has}
-use Rattle.sets.proofs.Words.{is-map, is-up}
+use Rattle.relations.proofs.Words.{is-map, is-up}
 use Rattle.rules.specs.Items.{Attributes, none, only, Lookups}
 use Rattle.rules.specs.Rules.{Match, NotMatchBy}
 use Rattle.rules.specs.Job.{lookups}
@@ -37,23 +37,23 @@ plus-up : {R : Relation} → Up R → {i j : ℕ} → Plus R i j → i ≤ j
 plus-up up (once {i} {j} r) = up i j r
 plus-up up (more {i} {h} r q) = let l = up i h r in let m = plus-up up q in omega arith
 
--- R up to the last position of a word
-abbrev Held : Relation → Relation
-Held R i j = (j < positions) × R i j
+-- R on m positions
+abbrev Held : ℕ → Relation → Relation
+Held m R i j = (j < m) × R i j
 
-plus-held : {R : Relation} {i j : ℕ} → Plus (Held R) i j → j < positions
+plus-held : {m : ℕ} {R : Relation} {i j : ℕ} → Plus (Held m R) i j → j < m
 plus-held (once r) = r .0
 plus-held (more r q) = plus-held q
 
-held-plus : {R : Relation} → Up R → {i j : ℕ} → j < positions → Plus R i j → Plus (Held R) i j
+held-plus : {m : ℕ} {R : Relation} → Up R → {i j : ℕ} → j < m → Plus R i j → Plus (Held m R) i j
 held-plus up l (once r) = once (l, r)
-held-plus up l (more {h = h} r q) = let m = plus-up up q in more {h = h} (omega arith, r) (held-plus up l q)
+held-plus up l (more {h = h} r q) = let n = plus-up up q in more {h = h} (omega arith, r) (held-plus up l q)
 
-repeats-map : {R T : Relation} (a k alone : ℕ) → ((i j : ℕ) → R i j → T i j) → (i j : ℕ) → Repeats a k alone R i j → Repeats a k alone T i j
-repeats-map a k alone f i j (h, inl q) = (h, inl (plus-map f q))
-repeats-map a k alone f i j (h, inr g) = (h, inr g)
+repeats-map : {R T : Relation} (m a k alone : ℕ) → ((i j : ℕ) → R i j → T i j) → (i j : ℕ) → Repeats m a k alone R i j → Repeats m a k alone T i j
+repeats-map m a k alone f i j (h, inl q) = (h, inl (plus-map f q))
+repeats-map m a k alone f i j (h, inr g) = (h, inr g)
 
-module _ {s marks named taken single : List ℕ} (S : Setting s marks named taken single) {a k : ℕ} (asked : Asked S a k) (p q : ℕ) (row : q < rowsOf s) (e : patternOf s p ≡ oneOrMore q) where
+module _ {s marks named taken single : List ℕ} (S : Setting s marks named taken single) (m : ℕ) {a k : ℕ} (asked : Asked S a k) (p q : ℕ) (row : q < rowsOf s) (e : patternOf s p ≡ oneOrMore q) where
   abbrev L : Lookups
   L = lookups (S .bytes) (S .ends) s (S .t)
 
@@ -70,16 +70,16 @@ module _ {s marks named taken single : List ℕ} (S : Setting s marks named take
   abbrev Step : Relation
   Step = Span L N none (S .it) (bit k) q
 
-  step : (i j : ℕ) → Related S 0 k q i j ↔ Held Step i j
+  step : (i j : ℕ) → Related S m 0 k q i j ↔ Held m Step i j
   step i j = rw (no-attributes (S .element)) ((λ r. r), λ r. r)
 
   up : Up Step
   up i j r = r .0
 
-  steps : (i j : ℕ) → Plus (Related S 0 k q) i j ↔ Held (Plus Step) i j
+  steps : (i j : ℕ) → Plus (Related S m 0 k q) i j ↔ Held m (Plus Step) i j
   steps i j = (to, λ r. plus-map (λ i j. step i j .1) (held-plus up (r .0) (r .1)))
     where
-      to : Plus (Related S 0 k q) i j → Held (Plus Step) i j
+      to : Plus (Related S m 0 k q) i j → Held m (Plus Step) i j
       to r = let t = plus-map (λ i j. step i j .0) r in (plus-held t, plus-map (λ i j u. u .1) t)
 
   R : Restricted L
@@ -91,14 +91,14 @@ module _ {s marks named taken single : List ℕ} (S : Setting s marks named take
   no-set : a ≡ 0 → A ≡ none
   no-set z = ap (attributesIn (S .element)) z ∙ no-attributes (S .element)
 
-  without : a ≡ 0 → (i j : ℕ) → Repeats a k alone (Related S 0 k q) i j ↔ Related S a k p i j
+  without : a ≡ 0 → (i j : ℕ) → Repeats m a k alone (Related S m 0 k q) i j ↔ Related S m a k p i j
   without z i j = (to, from)
     where
-      to : Repeats a k alone (Related S 0 k q) i j → Related S a k p i j
+      to : Repeats m a k alone (Related S m 0 k q) i j → Related S m a k p i j
       to (h, inl r) = let t = steps i j .0 r in (t .0, subst (λ (B : Attributes). Span L N B (S .it) (bit k) p i j) (sym (no-set z)) (span-oneOrMore L N (S .it) (bit k) q p i j e .1 (t .1)))
       to (h, inr (l, g)) = absurd (omega arith)
 
-      from : Related S a k p i j → Repeats a k alone (Related S 0 k q) i j
+      from : Related S m a k p i j → Repeats m a k alone (Related S m 0 k q) i j
       from r =
           let t = span-oneOrMore L N (S .it) (bit k) q p i j e .0 (subst (λ (B : Attributes). Span L N B (S .it) (bit k) p i j) (no-set z) (r .1)) in
           (λ x h. absurd (none-has x (subst (λ (n : ℕ). bit n x ≡ true) z h)), inl (steps i j .1 (r .0, t)))
@@ -113,18 +113,18 @@ module _ {s marks named taken single : List ℕ} (S : Setting s marks named take
         span-oneOrMore-attributes L N (S .it) (bit k) q R A (suc (S .element) + S .attributes) (attributeRow (S .element) x) below (row-in (S .element) a x ∙ trailing a some ha .member) (asked .distinct) p i j e
 
     alone-row : Within a alone → (r : ℕ) → A r ≡ true → Match L N (only r) [] (L .pattern q)
-    alone-row h r m =
-        let z = in-row (S .element) a r m in
+    alone-row h r x =
+        let z = in-row (S .element) a r x in
         subst (λ (x : ℕ). Match L N (only x) [] (L .pattern q)) (z .0) (single-at (numberOf (S .element) r) (z .1) .0 (h (numberOf (S .element) r) (z .1)))
 
-    beside : (i j : ℕ) → Repeats a k alone (Related S 0 k q) i j ↔ Related S a k p i j
+    beside : (i j : ℕ) → Repeats m a k alone (Related S m 0 k q) i j ↔ Related S m a k p i j
     beside i j = (to, from)
       where
-        to : Repeats a k alone (Related S 0 k q) i j → Related S a k p i j
+        to : Repeats m a k alone (Related S m 0 k q) i j → Related S m a k p i j
         to (h, inl r) = let t = steps i j .0 r in (t .0, span i j .1 (record { ordered = plus-up up (t .1); single = alone-row h; items = inr (t .1) }))
         to (h, inr (l, g)) = (g .1, span i j .1 (record { ordered = g .0; single = alone-row h; items = inl (run-empty (S .it) (bit k) (g .0) .1 (g .2)) }))
 
-        from : Related S a k p i j → Repeats a k alone (Related S 0 k q) i j
+        from : Related S m a k p i j → Repeats m a k alone (Related S m 0 k q) i j
         from r =
             let t = span i j .0 (r .1) in (
               λ x h. single-at x h .1 (t .single (attributeRow (S .element) x) (row-in (S .element) a x ∙ h)),
@@ -134,10 +134,10 @@ module _ {s marks named taken single : List ℕ} (S : Setting s marks named take
               ],
             )
 
-  pub related-oneOrMore : {w w₁ : List ℕ} → a < 2 ^ 64 → Is w₁ (Related S 0 k q) → (Up (Holds w₁) → Is w (Repeats a k alone (Holds w₁))) → Is w (Related S a k p)
+  pub related-oneOrMore : {w w₁ : List ℕ} → a < 2 ^ 64 → Is w₁ (Related S m 0 k q) → (Up (Holds w₁) → Is w (Repeats m a k alone (Holds w₁))) → Is w (Related S m a k p)
   related-oneOrMore {w} {w₁} ha is₁ closed =
-      is-map (is-map (closed (is-up is₁ (λ i j r. r .1 .0))) (λ i j. (repeats-map a k alone (is₁ .sound) i j, repeats-map a k alone (is₁ .complete) i j))) (λ i j. same i j (ℕ-discrete a 0))
+      is-map (is-map (closed (is-up is₁ (λ i j r. r .1 .0))) (λ i j. (repeats-map m a k alone (is₁ .sound) i j, repeats-map m a k alone (is₁ .complete) i j))) (λ i j. same i j (ℕ-discrete a 0))
     where
-      same : (i j : ℕ) → Dec (a ≡ 0) → Repeats a k alone (Related S 0 k q) i j ↔ Related S a k p i j
+      same : (i j : ℕ) → Dec (a ≡ 0) → Repeats m a k alone (Related S m 0 k q) i j ↔ Related S m a k p i j
       same i j (yes z) = without z i j
       same i j (no z) = beside ha (omega arith) i j

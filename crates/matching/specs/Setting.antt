@@ -6,9 +6,9 @@ use mathlib.Core.List.{List}
 use lib.ListN.{length}
 use Rattle.schema.specs.Rows.{rowsOf}
 use Rattle.restrictions.proofs.Passes.{SchemaPasses}
-use Rattle.sets.specs.Bits.{positions, bit}
-use Rattle.sets.specs.Relations.{Relation}
-use Rattle.sets.specs.Words.{Is}
+use Rattle.sets.specs.Bits.{bit}
+use Rattle.relations.specs.Relations.{Relation}
+use Rattle.relations.specs.Words.{Is}
 use Rattle.rules.specs.Items.{Item}
 use Rattle.rules.specs.Rules.{NotMatchBy}
 use Rattle.rules.specs.Job.{lookups}
@@ -37,10 +37,10 @@ module _ {s marks named taken single : List ℕ} (S : Setting s marks named take
     pub distinct : Distinct (lookups (S .bytes) (S .ends) s (S .t)) (attributesIn (S .element) a)
     pub clean : CleanAt (lookups (S .bytes) (S .ends) s (S .t)) (S .it) (bit k)
 
-  -- i and j are related where the attributes a and the items of k in [i, j) match the pattern at row p
-  abbrev pub Related : ℕ → ℕ → ℕ → Relation
-  Related a k p i j = (j < positions) × Span (lookups (S .bytes) (S .ends) s (S .t)) (NotMatchBy (lookups (S .bytes) (S .ends) s (S .t)) (rowsOf s)) (attributesIn (S .element) a) (S .it) (bit k) p i j
+  -- i and j, of m positions, are related where the attributes a and the items of k in [i, j) match the pattern at row p
+  abbrev pub Related : (m a k p : ℕ) → Relation
+  Related m a k p i j = (j < m) × Span (lookups (S .bytes) (S .ends) s (S .t)) (NotMatchBy (lookups (S .bytes) (S .ends) s (S .t)) (rowsOf s)) (attributesIn (S .element) a) (S .it) (bit k) p i j
 
 -- the words hold the relation of row p in every such setting
-abbrev pub Answers : (s marks named taken single : List ℕ) (a k p : ℕ) → List ℕ → Type 0
-Answers s marks named taken single a k p words = (S : Setting s marks named taken single) → Asked S a k → p < rowsOf s → Is words (Related S a k p)
+abbrev pub Answers : (s marks named taken single : List ℕ) (m a k p : ℕ) → List ℕ → Type 0
+Answers s marks named taken single m a k p words = (S : Setting s marks named taken single) → Asked S a k → p < rowsOf s → Is words (Related S m a k p)

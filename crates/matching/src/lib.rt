@@ -1,77 +1,77 @@
-// The relation of a pattern over the attributes and items of one element.
+// The relation of a pattern over the attributes and items of one element, on the m positions between the items.
 ghost use mathlib.Core.Path.{_≡_};
 ghost use Prim.Native.Nat.{_+_, _*_, _≤_};
 ghost use lib.ListN.{length};
 ghost use Rattle.schema.specs.Rows.{kindOf};
-ghost use Rattle.sets.specs.Words.{Is, Holds, Up, front, Gap, Single};
+ghost use Rattle.relations.specs.Words.{Is, Holds, Up, front, Gap, Single};
 ghost use Rattle.matching.specs.Parts.{Where, OneIn, Repeats, AnswersLeaf, Operands};
 ghost use Rattle.matching.specs.Setting.{Answers};
 
 // No attributes, and no item of stop.
-fn no_items(a: u64, stop: u64, work: &mut [u64])
-    ensures { λ _. ⌜ (64 ≤ length (now (work .entry)) → Is (front (now (work .exit))) (Where (a ≡ 0) (Gap stop))) ⌝ }
+fn no_items(m: u32, a: u64, stop: u64, work: &mut [u64])
+    ensures { λ _. ⌜ (m ≤ 64 → m ≤ length (now (work .entry)) → Is (front m (now (work .exit))) (Where (a ≡ 0) (Gap m stop))) ⌝ }
 {
     if a == 0 {
-        sets::gaps(stop, work);
+        relations::gaps(m, stop, work);
         return;
     }
-    sets::clear(work);
+    relations::clear(m, work);
 }
 
 // No attributes, and one item of all, a marked one.
-fn one_item(a: u64, all: u64, marked: u64, work: &mut [u64])
-    ensures { λ _. ⌜ (64 ≤ length (now (work .entry)) → Is (front (now (work .exit))) (Where (a ≡ 0) (Single all marked))) ⌝ }
+fn one_item(m: u32, a: u64, all: u64, marked: u64, work: &mut [u64])
+    ensures { λ _. ⌜ (m ≤ 64 → m ≤ length (now (work .entry)) → Is (front m (now (work .exit))) (Where (a ≡ 0) (Single m all marked))) ⌝ }
 {
     if a == 0 {
-        sets::singles(all, marked, work);
+        relations::singles(m, all, marked, work);
         return;
     }
-    sets::clear(work);
+    relations::clear(m, work);
 }
 
 // One attribute, a marked one, and no item of k.
-fn one_attribute(a: u64, marked: u64, k: u64, work: &mut [u64])
-    ensures { λ _. ⌜ (64 ≤ length (now (work .entry)) → Is (front (now (work .exit))) (Where (OneIn a marked) (Gap k))) ⌝ }
+fn one_attribute(m: u32, a: u64, marked: u64, k: u64, work: &mut [u64])
+    ensures { λ _. ⌜ (m ≤ 64 → m ≤ length (now (work .entry)) → Is (front m (now (work .exit))) (Where (OneIn a marked) (Gap m k))) ⌝ }
 {
     if sets::count(a) == 1 {
         if a & !marked == 0 {
-            sets::gaps(k, work);
+            relations::gaps(m, k, work);
             return;
         }
     }
-    sets::clear(work);
+    relations::clear(m, work);
 }
 
 // The relation of a row without operands: mark has the items that it takes, or the attributes.
-fn leaf(schema: &[u32], marks: &[u64], a: u64, k: u64, p: u32, work: &mut [u64])
-    ensures { λ _. ⌜ (64 ≤ length (now (work .entry)) → AnswersLeaf (now (schema .entry)) (now (marks .entry)) a k p (front (now (work .exit)))) ⌝ }
+fn leaf(schema: &[u32], marks: &[u64], m: u32, a: u64, k: u64, p: u32, work: &mut [u64])
+    ensures { λ _. ⌜ (m ≤ 64 → m ≤ length (now (work .entry)) → AnswersLeaf (now (schema .entry)) (now (marks .entry)) m a k p (front m (now (work .exit)))) ⌝ }
 {
     let mark = sets::word(marks, p);
     let kind = schema::kind(schema, p);
     match kind {
-        1 => no_items(a, k, work),
-        3 => no_items(a, k & !mark, work),
-        4 | 5 | 8 => one_item(a, k, mark, work),
-        7 => one_attribute(a, mark, k, work),
-        _ => sets::clear(work),
+        1 => no_items(m, a, k, work),
+        3 => no_items(m, a, k & !mark, work),
+        4 | 5 | 8 => one_item(m, a, k, mark, work),
+        7 => one_attribute(m, a, mark, k, work),
+        _ => relations::clear(m, work),
     }
 }
 
 // The repetitions of the first relation: alone has the attributes that match by themselves.
-fn repeated(a: u64, k: u64, alone: u64, work: &mut [u64])
-    requires { ⌜ 128 ≤ length (now work) ⌝ }
-    ensures { λ _. ⌜ (Up (Holds (front (now (work .entry)))) → Is (front (now (work .exit))) (Repeats a k alone (Holds (front (now (work .entry)))))) ⌝ }
+fn repeated(m: u32, a: u64, k: u64, alone: u64, work: &mut [u64])
+    requires { ⌜ (m ≤ 64) × (128 ≤ length (now work)) ⌝ }
+    ensures { λ _. ⌜ (Up (Holds (front m (now (work .entry)))) → Is (front m (now (work .exit))) (Repeats m a k alone (Holds (front m (now (work .entry)))))) ⌝ }
 {
     if a & !alone != 0 {
-        sets::clear(work);
+        relations::clear(m, work);
         return;
     }
-    sets::close(work);
+    relations::close(m, work);
     if a == 0 {
         return;
     }
-    sets::gaps(k, &mut work[64..]);
-    sets::union(work);
+    relations::gaps(m, k, &mut work[64..]);
+    relations::union(m, work);
 }
 
 // The relations of the operands of row p, one after the other. An operand that is no smaller row is not visited.
@@ -81,6 +81,7 @@ fn operands(
     named: &[u64],
     taken: &[u64],
     single: &[u64],
+    m: u32,
     p: u32,
     a1: u64,
     k1: u64,
@@ -88,20 +89,21 @@ fn operands(
     k2: u64,
     work: &mut [u64],
 )
-    requires { ⌜ 64 * (p + 1) ≤ length (now work) ⌝ }
-    ensures { λ _. ⌜ Operands (now (schema .entry)) (now (marks .entry)) (now (named .entry)) (now (taken .entry)) (now (single .entry)) p a1 k1 a2 k2 (now (work .exit)) ⌝ }
+    requires { ⌜ (m ≤ 64) × (64 * (p + 1) ≤ length (now work)) ⌝ }
+    ensures { λ _. ⌜ Operands (now (schema .entry)) (now (marks .entry)) (now (named .entry)) (now (taken .entry)) (now (single .entry)) m p a1 k1 a2 k2 (now (work .exit)) ⌝ }
 {
     let p1 = schema::field_a(schema, p);
     let p2 = schema::field_b(schema, p);
     if p1 < p {
         if p2 < p {
-            relate(schema, marks, named, taken, single, a1, k1, p1, work);
+            relate(schema, marks, named, taken, single, m, a1, k1, p1, work);
             relate(
                 schema,
                 marks,
                 named,
                 taken,
                 single,
+                m,
                 a2,
                 k2,
                 p2,
@@ -118,18 +120,19 @@ fn one_or_more(
     named: &[u64],
     taken: &[u64],
     single: &[u64],
+    m: u32,
     a: u64,
     k: u64,
     p: u32,
     work: &mut [u64],
 )
-    requires { ⌜ (64 * (p + 1) ≤ length (now work)) × (kindOf (now schema) p ≡ 9) ⌝ }
-    ensures { λ _. ⌜ Answers (now (schema .entry)) (now (marks .entry)) (now (named .entry)) (now (taken .entry)) (now (single .entry)) a k p (front (now (work .exit))) ⌝ }
+    requires { ⌜ (m ≤ 64) × (64 * (p + 1) ≤ length (now work)) × (kindOf (now schema) p ≡ 9) ⌝ }
+    ensures { λ _. ⌜ Answers (now (schema .entry)) (now (marks .entry)) (now (named .entry)) (now (taken .entry)) (now (single .entry)) m a k p (front m (now (work .exit))) ⌝ }
 {
     let q = schema::field_a(schema, p);
     if q < p {
-        relate(schema, marks, named, taken, single, 0, k, q, work);
-        repeated(a, k, sets::word(single, q), work);
+        relate(schema, marks, named, taken, single, m, 0, k, q, work);
+        repeated(m, a, k, sets::word(single, q), work);
     }
 }
 
@@ -140,16 +143,17 @@ fn choice(
     named: &[u64],
     taken: &[u64],
     single: &[u64],
+    m: u32,
     a: u64,
     k: u64,
     p: u32,
     work: &mut [u64],
 )
-    requires { ⌜ (64 * (p + 1) ≤ length (now work)) × (kindOf (now schema) p ≡ 10) ⌝ }
-    ensures { λ _. ⌜ Answers (now (schema .entry)) (now (marks .entry)) (now (named .entry)) (now (taken .entry)) (now (single .entry)) a k p (front (now (work .exit))) ⌝ }
+    requires { ⌜ (m ≤ 64) × (64 * (p + 1) ≤ length (now work)) × (kindOf (now schema) p ≡ 10) ⌝ }
+    ensures { λ _. ⌜ Answers (now (schema .entry)) (now (marks .entry)) (now (named .entry)) (now (taken .entry)) (now (single .entry)) m a k p (front m (now (work .exit))) ⌝ }
 {
-    operands(schema, marks, named, taken, single, p, a, k, a, k, work);
-    sets::union(work);
+    operands(schema, marks, named, taken, single, m, p, a, k, a, k, work);
+    relations::union(m, work);
 }
 
 // A group: the attributes that the first operand names go to it, and the others to the second.
@@ -159,19 +163,33 @@ fn group(
     named: &[u64],
     taken: &[u64],
     single: &[u64],
+    m: u32,
     a: u64,
     k: u64,
     p: u32,
     work: &mut [u64],
 )
-    requires { ⌜ (64 * (p + 1) ≤ length (now work)) × (kindOf (now schema) p ≡ 11) ⌝ }
-    ensures { λ _. ⌜ Answers (now (schema .entry)) (now (marks .entry)) (now (named .entry)) (now (taken .entry)) (now (single .entry)) a k p (front (now (work .exit))) ⌝ }
+    requires { ⌜ (m ≤ 64) × (64 * (p + 1) ≤ length (now work)) × (kindOf (now schema) p ≡ 11) ⌝ }
+    ensures { λ _. ⌜ Answers (now (schema .entry)) (now (marks .entry)) (now (named .entry)) (now (taken .entry)) (now (single .entry)) m a k p (front m (now (work .exit))) ⌝ }
 {
     let n = sets::word(named, schema::field_a(schema, p));
     let a1 = a & n;
     let a2 = a & !n;
-    operands(schema, marks, named, taken, single, p, a1, k, a2, k, work);
-    sets::compose(work);
+    operands(
+        schema,
+        marks,
+        named,
+        taken,
+        single,
+        m,
+        p,
+        a1,
+        k,
+        a2,
+        k,
+        work,
+    );
+    relations::compose(m, work);
 }
 
 // An interleave: the same of the attributes, and the items that the first operand takes go to it.
@@ -181,13 +199,14 @@ fn interleave(
     named: &[u64],
     taken: &[u64],
     single: &[u64],
+    m: u32,
     a: u64,
     k: u64,
     p: u32,
     work: &mut [u64],
 )
-    requires { ⌜ (64 * (p + 1) ≤ length (now work)) × (kindOf (now schema) p ≡ 12) ⌝ }
-    ensures { λ _. ⌜ Answers (now (schema .entry)) (now (marks .entry)) (now (named .entry)) (now (taken .entry)) (now (single .entry)) a k p (front (now (work .exit))) ⌝ }
+    requires { ⌜ (m ≤ 64) × (64 * (p + 1) ≤ length (now work)) × (kindOf (now schema) p ≡ 12) ⌝ }
+    ensures { λ _. ⌜ Answers (now (schema .entry)) (now (marks .entry)) (now (named .entry)) (now (taken .entry)) (now (single .entry)) m a k p (front m (now (work .exit))) ⌝ }
 {
     let q = schema::field_a(schema, p);
     let n = sets::word(named, q);
@@ -196,33 +215,50 @@ fn interleave(
     let a2 = a & !n;
     let k1 = k & t;
     let k2 = k & !t;
-    operands(schema, marks, named, taken, single, p, a1, k1, a2, k2, work);
-    sets::meet(work);
+    operands(
+        schema,
+        marks,
+        named,
+        taken,
+        single,
+        m,
+        p,
+        a1,
+        k1,
+        a2,
+        k2,
+        work,
+    );
+    relations::meet(m, work);
 }
 
-// The relation of row p in the first 64 words of work: i and j are related where the attributes a and the items of k in [i, j) match its pattern.
+// The relation of row p in the first m words of work: i and j are related where the attributes a and the items of k in [i, j) match its pattern. Where m is above 64 or work has not 64 words for each row up to p, nothing is written.
 pub fn relate(
     schema: &[u32],
     marks: &[u64],
     named: &[u64],
     taken: &[u64],
     single: &[u64],
+    m: u32,
     a: u64,
     k: u64,
     p: u32,
     work: &mut [u64],
 )
-    ensures { λ _. ⌜ (64 * (p + 1) ≤ length (now (work .entry)) → Answers (now (schema .entry)) (now (marks .entry)) (now (named .entry)) (now (taken .entry)) (now (single .entry)) a k p (front (now (work .exit)))) ⌝ }
+    ensures { λ _. ⌜ (m ≤ 64 → 64 * (p + 1) ≤ length (now (work .entry)) → Answers (now (schema .entry)) (now (marks .entry)) (now (named .entry)) (now (taken .entry)) (now (single .entry)) m a k p (front m (now (work .exit)))) ⌝ }
 {
+    if m > 64 {
+        return;
+    }
     if work.len() < 64 * (p as usize + 1) {
         return;
     }
     let kind = schema::kind(schema, p);
     match kind {
-        9 => one_or_more(schema, marks, named, taken, single, a, k, p, work),
-        10 => choice(schema, marks, named, taken, single, a, k, p, work),
-        11 => group(schema, marks, named, taken, single, a, k, p, work),
-        12 => interleave(schema, marks, named, taken, single, a, k, p, work),
-        _ => leaf(schema, marks, a, k, p, work),
+        9 => one_or_more(schema, marks, named, taken, single, m, a, k, p, work),
+        10 => choice(schema, marks, named, taken, single, m, a, k, p, work),
+        11 => group(schema, marks, named, taken, single, m, a, k, p, work),
+        12 => interleave(schema, marks, named, taken, single, m, a, k, p, work),
+        _ => leaf(schema, marks, m, a, k, p, work),
     }
 }

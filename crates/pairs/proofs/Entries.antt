@@ -1,5 +1,5 @@
 -- The entries of one element, and the table from the last row to the first.
-use Prim.Native.Nat.{ℕ, suc, _+_, _≤_, _<_}
+use Prim.Native.Nat.{ℕ, suc, _+_, _*_, _≤_, _<_}
 use mathlib.Core.Path.{_≡_, refl, sym, _∙_, ap}
 use mathlib.Core.Bool.{Bool, true, false, cond, true≢false}
 use mathlib.Core.List.{List}
@@ -10,6 +10,8 @@ use lib.Dec.{eqb}
 use lib.ListN.{length, getD, take, set, length-set}
 use lib.Seq.{getD-take, getD-set-same, length-take-le}
 use borrow.Author.Tests.{eq-eqb, eqb-true}
+use Rattle.tables.specs.Outputs.{zeros}
+use Rattle.tables.proofs.Fill.{getD-zeros}
 use Rattle.strings.specs.Strings.{at-front}
 use Rattle.strings.proofs.Table.{ends-of, few-strings}
 use Rattle.schema.specs.Rows.{rowsOf, bOf}
@@ -31,8 +33,9 @@ use Rattle.matching.specs.Setting.{Setting, Asked}
 use Rattle.contents.specs.Contents.{Counted, Children, ofKind, Itemized, Contents}
 use Rattle.contents.proofs.AttributeWord.{value-string, few-counted}
 use Rattle.contents.proofs.ItemRuns.{Kind, is-text, is-element, kind-at, child-at, collected-contents}
-use Rattle.pairs.specs.Pairs.{IsPair, PairsFrom}
-use Rattle.pairs.specs.Rows.{FitsDefinition, RowKept, RowTold, Shown, RowRight, Filling, Known, isSolid}
+use Rattle.alone.specs.Alone.{Filled}
+use Rattle.pairs.specs.Pairs.{IsPair, PairsFrom, TablesPass}
+use Rattle.pairs.specs.Rows.{FitsDefinition, RowKept, RowTold, Shown, RowRight, Filling, Known, isSolid, Ready, StandsFor}
 use Rattle.pairs.proofs.Showing.{text-item, mixed-shown, simple-shown, string-known}
 
 -- what is told of each definition, where the attributes and items stand for the element
@@ -44,16 +47,25 @@ module _ {bytes ends s t alone nothing blank pairs items marks named taken singl
   asked : Asked setting a k
   asked = record { of-attributes = shown .of-attributes; of-items = shown .of-items; distinct = shown .distinct; clean = shown .clean }
 
-  pub row-right : {before after : List ℕ} → isElement t e ≡ true → RowTold s t marks named taken single a k weak before after e (rowsOf s) → RowRight bytes ends s t before after e
+  pub row-right : {before after : List ℕ} → isElement t e ≡ true → RowTold s t marks named taken single (length items) a k weak before after e (rowsOf s) → RowRight bytes ends s t before after e
   row-right {before} {after} i r = record { others = r .others; right = λ d h. (λ v. to d (r .told d h setting asked .0 v), λ p. r .told d h setting asked .1 (from d (p .1))) }
     where
-      to : (d : ℕ) → FitsDefinition setting t a k weak e d → IsPair bytes ends s t e d
+      to : (d : ℕ) → FitsDefinition setting t (length items) a k weak e d → IsPair bytes ends s t e d
       to d f = (i, record { defined = f .defined; ordered = shown .ordered; named = f .has-name; content = shown .content (bOf s d) .1 (⊎-map (λ x. x .1) (λ x. (x .0, x .1 .1)) (f .content)) })
 
-      from : (d : ℕ) → Paired (lookups bytes ends s t) (NotMatchBy (lookups bytes ends s t) (rowsOf s)) e d → FitsDefinition setting t a k weak e d
+      from : (d : ℕ) → Paired (lookups bytes ends s t) (NotMatchBy (lookups bytes ends s t) (rowsOf s)) e d → FitsDefinition setting t (length items) a k weak e d
       from d p = record { defined = p .defined; has-name = p .named; content = ⊎-map (λ x. (omega arith, x)) (λ x. (x .0, (omega arith, x .1))) (shown .content (bOf s d) .0 (p .content)) }
 
 module _ {bytes ends s t alone nothing blank pairs : List ℕ} where
+  -- before the last row: no entry is asked, and all are 0
+  pub filling-start : (n : ℕ) → TablesPass bytes ends s t → Filled bytes ends s alone nothing blank → pairs ≡ zeros n → Filling bytes ends s t alone nothing blank pairs (nodesOf t)
+  filling-start n pass filled z = record {
+    pass = pass;
+    filled = filled;
+    from = record { entries = λ e d h l m. absurd (omega arith) };
+    empty = λ e d h l. ap (λ (w : List ℕ). pairEntry w e d) z ∙ getD-zeros n (e * maxRows + d);
+  }
+
   -- one row more: that of an element, and another
   pub filling-row : {after : List ℕ} {r : ℕ} → Filling bytes ends s t alone nothing blank pairs (r + 1) → RowRight bytes ends s t pairs after r → Filling bytes ends s t alone nothing blank after r
   filling-row {after} {r} f w = record {
@@ -112,33 +124,40 @@ module _ {bytes ends s t alone nothing blank pairs : List ℕ} where
 pub contents-taken : {t items : List ℕ} {e n texts elements : ℕ} → Contents t e items n texts elements → Contents t e (take n items) n texts elements
 contents-taken {items = items} {n = n} c = record { count = c .count; few = c .few; each = λ k h. getD-take n items k 0 h ∙ c .each k h; texts-at = c .texts-at; elements-at = c .elements-at }
 
--- what an element's items are asked with
-pub record Ready (bytes ends s t alone nothing blank pairs items : List ℕ) (e attributes texts a k : ℕ) (weak : Bool) : Type 0 where
-  pub ready-given : Given bytes ends s t alone nothing blank pairs items e attributes texts
-  pub ready-shown : Shown bytes ends s t items e attributes texts a k weak
+-- what stands for the content of an element
+module _ (blank items : List ℕ) {n texts elements : ℕ} where
+  pub mixed-stands : {content : List ℕ} {k : ℕ} → n ≤ maxWidth → n ≤ length items → content ≡ take n items → elements ≢ 0 → Collects (isSolid blank content texts) (length content) k
+      → StandsFor blank items items n texts elements n texts k false
+  mixed-stands {content} {k} few l q f solid = record { few = few; ready = λ bytes ends s t alone nothing pairs e attributes a known. ready known }
+    where
+      ready : {bytes ends s t alone nothing pairs : List ℕ} {e attributes a : ℕ} → Known bytes ends s t alone nothing blank pairs items e attributes a n texts elements
+          → Ready bytes ends s t alone nothing blank pairs (take n items) e attributes texts a k false
+      ready known =
+          let size : n ≡ length (take n items) = sym (length-take-le n items l) in
+          let c = contents-taken (known .contents) in
+          record {
+            given = mixed-given (known .filling) (known .in-table) (known .counted) (known .few) c size;
+            shown = mixed-shown (known .filling .pass) (known .in-table) (known .counted) (known .few) (known .all) blank c size f (known .filling .filled .blanks) (rw (q, ← size) at solid);
+          }
 
-module _ {bytes ends s t alone nothing blank pairs items : List ℕ} {e attributes a n texts elements : ℕ} (known : Known bytes ends s t alone nothing blank pairs items e attributes a n texts elements) where
-  pub mixed-ready : {content : List ℕ} {k : ℕ} → elements ≢ 0 → content ≡ take n items → n ≤ length items → Collects (isSolid blank content texts) (length content) k
-      → Ready bytes ends s t alone nothing blank pairs content e attributes texts a k false
-  mixed-ready {content} {k} f q l solid =
-      let size : n ≡ length content = sym (ap length q ∙ length-take-le n items l) in
-      let c : Contents t e content n texts elements = rw q (contents-taken (known .contents)) in
-      record {
-        ready-given = mixed-given (known .filling) (known .in-table) (known .counted) (known .few) c size;
-        ready-shown = mixed-shown (known .filling .pass) (known .in-table) (known .counted) (known .few) (known .all) blank c size f (known .filling .filled .blanks) (rw size solid);
-      }
+  pub simple-stands : {v : ℕ} {weak : Bool} → 1 ≤ length items → elements ≡ 0 → v ≡ cond (eqb n 0) 0 (getD items 0 0) → weak ≡ eqb (getD blank v 0) 1
+      → StandsFor blank items (set items 0 v) n texts elements 1 1 1 weak
+  simple-stands {v} {weak} l z q w = record { few = omega arith; ready = λ bytes ends s t alone nothing pairs e attributes a known. ready known }
+    where
+      size : length (take 1 (set items 0 v)) ≡ 1
+      size = length-take-le 1 (set items 0 v) (rw (length-set items 0 v) l)
 
-  pub simple-ready : {one : List ℕ} {v : ℕ} {weak : Bool} → elements ≡ 0 → v ≡ cond (eqb n 0) 0 (getD items 0 0) → one ≡ take 1 (set items 0 v) → 1 ≤ length items → weak ≡ eqb (getD blank v 0) 1
-      → Ready bytes ends s t alone nothing blank pairs one e attributes 1 a 1 weak
-  simple-ready {one} {v} {weak} z q r l w =
-      let room : 1 ≤ length (set items 0 v) = rw (length-set items 0 v) l in
-      let size : length one ≡ 1 = ap length r ∙ length-take-le 1 (set items 0 v) room in
-      let first : getD one 0 0 ≡ v = ap (λ (m : List ℕ). getD m 0 0) r ∙ getD-take 1 (set items 0 v) 0 0 (omega arith) ∙ getD-set-same items 0 v 0 l in
-      let low = string-known (known .filling .pass) (known .in-table) (known .counted) (known .few) (known .all) (known .contents) z q in
-      record {
-        ready-given = simple-given (known .filling) (known .in-table) (known .counted) (known .few) one size (rw first low);
-        ready-shown = simple-shown (known .filling .pass) (known .in-table) (known .counted) (known .few) (known .all) blank (known .contents) z q (known .filling .filled .blanks) one size first weak w;
-      }
+      first : getD (take 1 (set items 0 v)) 0 0 ≡ v
+      first = getD-take 1 (set items 0 v) 0 0 (omega arith) ∙ getD-set-same items 0 v 0 l
+
+      ready : {bytes ends s t alone nothing pairs : List ℕ} {e attributes a : ℕ} → Known bytes ends s t alone nothing blank pairs items e attributes a n texts elements
+          → Ready bytes ends s t alone nothing blank pairs (take 1 (set items 0 v)) e attributes 1 a 1 weak
+      ready known =
+          let low = string-known (known .filling .pass) (known .in-table) (known .counted) (known .few) (known .all) (known .contents) z q in
+          record {
+            given = simple-given (known .filling) (known .in-table) (known .counted) (known .few) (take 1 (set items 0 v)) size (rw first low);
+            shown = simple-shown (known .filling .pass) (known .in-table) (known .counted) (known .few) (known .all) blank (known .contents) z q (known .filling .filled .blanks) (take 1 (set items 0 v)) size first weak w;
+          }
 
 -- what the functions of `contents` tell of an element
 pub know : {bytes ends s t alone nothing blank pairs rows items : List ℕ} {e attributes a n texts elements : ℕ} → Filling bytes ends s t alone nothing blank pairs (e + 1) → e < nodesOf t → isElement t e ≡ true → Counted t e attributes
@@ -150,7 +169,6 @@ know {t = t} {e = e} f h i counted all room c items texts elements =
     record {
       filling = f;
       in-table = h;
-      element = i;
       counted = counted;
       few = few;
       all = all few;

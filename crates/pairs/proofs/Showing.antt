@@ -1,5 +1,5 @@
 -- The attributes and items that stand for an element: with an element among its children all but whitespace, and otherwise one string.
-use Prim.Native.Nat.{ℕ, zero, suc, _+_, _^_, _≤_, _<_}
+use Prim.Native.Nat.{ℕ, zero, suc, _≤_, _<_}
 use mathlib.Core.Path.{_≡_, refl, sym, _∙_, ap, subst}
 use mathlib.Core.Bool.{Bool, true, false, not, cond, _&&_, true≢false, false≢true}
 use mathlib.Core.List.{List, [], _∷_, map}
@@ -14,7 +14,7 @@ use Rattle.strings.specs.Strings.{textOf, at-front}
 use Rattle.strings.proofs.Table.{ends-of, some-string}
 use Rattle.datatypes.specs.Whitespace.{whitespace}
 use Rattle.schema.specs.Rows.{rowsOf}
-use Rattle.instance.specs.Nodes.{element, nodesOf, kindOf, aOf}
+use Rattle.instance.specs.Nodes.{element, nodesOf, aOf}
 use Rattle.instance.specs.Width.{maxWidth}
 use Rattle.instance.specs.Elements.{isElement, childrenOf}
 use Rattle.instance.proofs.Elements.{text-string}
@@ -24,7 +24,7 @@ use Rattle.rules.specs.Items.{Item, string, Attributes, Lookups}
 use Rattle.rules.specs.Items as item
 use Rattle.rules.specs.Rules.{WeakMatch, Match, NotMatchBy}
 use Rattle.rules.specs.Job.{itemOf, lookups}
-use Rattle.rules.proofs.Booleans.{is-false, and-left, and-right}
+use Rattle.rules.proofs.Booleans.{and-left, and-right}
 use Rattle.rules.proofs.Children.{first-empty, children-ok}
 use Rattle.rules.proofs.Inversion.{One}
 use Rattle.rules.proofs.OneElement.{no-element, strings-clean, stripped-clean, weak-empty, weak-string, weak-span}
@@ -32,14 +32,14 @@ use Rattle.rules.proofs.Passing.{restricted}
 use Rattle.rules.proofs.Runs.{run, kept}
 use Rattle.rules.proofs.Sequences.{hasElement}
 use Rattle.rules.proofs.Spans.{Span, span-whole}
-use Rattle.rules.proofs.Stripping.{notWhitespace, stripped}
+use Rattle.rules.proofs.Stripping.{notWhitespace}
 use Rattle.alone.specs.Alone.{Blank}
 use Rattle.marks.specs.Marks.{attributesIn}
 use Rattle.marks.specs.Given.{itemAt}
 use Rattle.marks.specs.Tests.{Collects}
 use Rattle.contents.specs.Contents.{Counted, Contents}
 use Rattle.contents.proofs.AttributeWord.{attributes-same, attributes-distinct}
-use Rattle.contents.proofs.ItemRuns.{run-members, Kind, is-text, is-element, kind-at, item-at, run-contents}
+use Rattle.contents.proofs.ItemRuns.{run-members, Kind, is-text, is-element, kind-at, run-contents}
 use Rattle.pairs.specs.Pairs.{TablesPass}
 use Rattle.pairs.specs.Rows.{Shown, isSolid}
 
@@ -128,13 +128,13 @@ module _ {bytes ends s t : List ℕ} (pass : TablesPass bytes ends s t) {e : ℕ
       distinct = attributes-distinct (pass .nodes) e h counted a same;
       clean = stripped-clean L (itemAt bytes ends items texts) (bit w) (λ k b. and-right (ltb k n) (notWhitespace L (itemAt bytes ends items texts k)) (sym (solid-at c blank right solid k) ∙ b));
       ordered = children-ok (pass .strings) (pass .nodes) s e;
-      content = λ p. (λ m. inl (subst (λ (A : Attributes). Span L N A (itemAt bytes ends items texts) (bit w) p 0 maxWidth) (sym same) (told p .0 m)), ⊎-elim (λ m. told p .1 (subst (λ (A : Attributes). Span L N A (itemAt bytes ends items texts) (bit w) p 0 maxWidth) same m)) (λ m. absurd (false≢true (m .0))));
+      content = λ p. (λ m. inl (subst (λ (A : Attributes). Span L N A (itemAt bytes ends items texts) (bit w) p 0 (length items)) (sym same) (told p .0 m)), ⊎-elim (λ m. told p .1 (subst (λ (A : Attributes). Span L N A (itemAt bytes ends items texts) (bit w) p 0 (length items)) same m)) (λ m. absurd (false≢true (m .0))));
     }
       where
-        told : (p : ℕ) → WeakMatch L N (L .attributes e) (L .children e) (L .pattern p) ↔ Span L N (L .attributes e) (itemAt bytes ends items texts) (bit w) p 0 maxWidth
+        told : (p : ℕ) → WeakMatch L N (L .attributes e) (L .children e) (L .pattern p) ↔ Span L N (L .attributes e) (itemAt bytes ends items texts) (bit w) p 0 (length items)
         told p =
-            weak-span L N (L .attributes e) (restricted (pass .schema) bytes ends t) p (children-ok (pass .strings) (pass .nodes) s e) (has-element c f) (itemAt bytes ends items texts) (bit w) maxWidth
-            (run-contents c bytes ends s (notWhitespace L) w (solid-at c blank right solid))
+            weak-span L N (L .attributes e) (restricted (pass .schema) bytes ends t) p (children-ok (pass .strings) (pass .nodes) s e) (has-element c f) (itemAt bytes ends items texts) (bit w) (length items)
+            (rw size at (run-contents c bytes ends s (notWhitespace L) w (solid-at c blank right solid)))
 
     -- a string that stands for the content: it alone, or where it is whitespace nothing
     abbrev Stands : ℕ → Type 0
@@ -205,21 +205,21 @@ module _ {bytes ends s t : List ℕ} (pass : TablesPass bytes ends s t) {e : ℕ
         blank-told : weak ≡ whitespace (textOf bytes ends v)
         blank-told = w ∙ flag-same (whitespace (textOf bytes ends v)) (right v (only-stands c z q .1))
 
-        run-whole : run it (bit 1) 0 maxWidth ≡ string (textOf bytes ends v) ∷ []
+        run-whole : run it (bit 1) 0 (length one) ≡ string (textOf bytes ends v) ∷ []
         run-whole =
-            run-members (λ y. true) (string (textOf bytes ends v)) (string (textOf bytes ends v) ∷ []) it (bit 1) maxWidth (omega arith)
+            run-members (λ y. true) (string (textOf bytes ends v)) (string (textOf bytes ends v) ∷ []) it (bit 1) (length one) (omega arith)
             (λ k i. let r : k ≡ 0 = omega arith in rw r it-first)
             (λ k i. let r : k ≡ 0 = omega arith in bit-pow 0 k ∙ eq-eqb k 0 r)
             (λ k i. bit-pow 0 k ∙ ne-eqb k 0 (λ r. omega arith))
 
-        run-none : run it (bit 0) 0 maxWidth ≡ []
-        run-none = run-members (λ y. true) (string []) [] it (bit 0) maxWidth (omega arith) (λ k i. absurd (omega arith)) (λ k i. absurd (omega arith)) (λ k i. bit-none k)
+        run-none : run it (bit 0) 0 (length one) ≡ []
+        run-none = run-members (λ y. true) (string []) [] it (bit 0) (length one) (omega arith) (λ k i. absurd (omega arith)) (λ k i. absurd (omega arith)) (λ k i. bit-none k)
 
-        whole : (p : ℕ) → Span L N (attributesIn e a) it (bit 1) p 0 maxWidth ↔ Match L N (L .attributes e) (string (textOf bytes ends v) ∷ []) (L .pattern p)
-        whole p = rw same (span-whole L N (L .attributes e) it (bit 1) p maxWidth run-whole)
+        whole : (p : ℕ) → Span L N (attributesIn e a) it (bit 1) p 0 (length one) ↔ Match L N (L .attributes e) (string (textOf bytes ends v) ∷ []) (L .pattern p)
+        whole p = rw same (span-whole L N (L .attributes e) it (bit 1) p (length one) run-whole)
 
-        none : (p : ℕ) → Span L N (attributesIn e a) it (bit 0) p 0 maxWidth ↔ Match L N (L .attributes e) [] (L .pattern p)
-        none p = rw same (span-whole L N (L .attributes e) it (bit 0) p maxWidth run-none)
+        none : (p : ℕ) → Span L N (attributesIn e a) it (bit 0) p 0 (length one) ↔ Match L N (L .attributes e) [] (L .pattern p)
+        none p = rw same (span-whole L N (L .attributes e) it (bit 0) p (length one) run-none)
 
     pub string-known : {items : List ℕ} {n texts elements v : ℕ} → Contents t e items n texts elements → elements ≡ 0 → v ≡ cond (eqb n 0) 0 (getD items 0 0) → v < length ends
     string-known c z q = only-stands c z q .1

@@ -1,20 +1,17 @@
 -- One row of the table of pairs while it is filled; cited by private functions only.
 use Prim.Native.Nat.{ℕ, _+_, _≤_, _<_}
 use mathlib.Core.Path.{_≡_}
-use mathlib.Core.Bool.{Bool, true, false, not, _&&_}
+use mathlib.Core.Bool.{Bool, true, not, _&&_}
 use mathlib.Core.List.{List}
 use mathlib.Core.Logic.{_↔_, _⊎_, _≢_}
 use lib.Dec.{eqb}
-use lib.ListN.{length, getD}
-use Rattle.tables.specs.Answers.{Decides}
-use Rattle.strings.specs.Strings.{maxStrings}
+use lib.ListN.{length, getD, take}
 use Rattle.schema.specs.Rows.{rowsOf, aOf, bOf, sortOf, isElement}
 use Rattle.schema.specs.RowRule.{maxRows}
 use Rattle.instance.specs.Nodes as node
 use Rattle.instance.specs.Width.{maxWidth}
 use Rattle.classes.specs.Membership.{inClass}
 use Rattle.sets.specs.Bits.{bit}
-use Rattle.rules.specs.Items.{Lookups}
 use Rattle.rules.specs.Rules.{OkAsChildren, WeakMatch, NotMatchBy}
 use Rattle.rules.specs.Job.{lookups}
 use Rattle.rules.proofs.Occurrences.{CleanAt}
@@ -29,29 +26,29 @@ use Rattle.matching.specs.Setting.{Setting, Asked, Related}
 use Rattle.pairs.specs.Pairs.{IsPair, TablesPass, PairsFrom}
 
 module _ {s marks named taken single : List ℕ} (S : Setting s marks named taken single) where
-  -- all items of k match the pattern at row p; or, where the content is whitespace, no item does (9.3.7, weak match 2)
-  abbrev pub Fits : (a k : ℕ) (weak : Bool) (p : ℕ) → Type 0
-  Fits a k weak p = Related S a k p 0 maxWidth ⊎ ((weak ≡ true) × Related S a 0 p 0 maxWidth)
+  -- all items of k, of the first n, match the pattern at row p; or, where the content is whitespace, no item does (9.3.7, weak match 2)
+  abbrev pub Fits : (n a k : ℕ) (weak : Bool) (p : ℕ) → Type 0
+  Fits n a k weak p = Related S (n + 1) a k p 0 n ⊎ ((weak ≡ true) × Related S (n + 1) a 0 p 0 n)
 
   -- row d is a definition whose class has the name of instance row e, and whose pattern fits
-  pub record FitsDefinition (t : List ℕ) (a k : ℕ) (weak : Bool) (e d : ℕ) : Type 0 where
+  pub record FitsDefinition (t : List ℕ) (n a k : ℕ) (weak : Bool) (e d : ℕ) : Type 0 where
     pub defined : isElement (sortOf s d) ≡ true
     pub has-name : inClass s (node.aOf t e) (node.bOf t e) (aOf s d) ≡ true
-    pub content : Fits a k weak (bOf s d)
+    pub content : Fits n a k weak (bOf s d)
 
 -- v tells whether definition d fits
-abbrev pub TellsPair : (s t marks named taken single : List ℕ) (a k : ℕ) (weak : Bool) (e d v : ℕ) → Type 0
-TellsPair s t marks named taken single a k weak e d v = (S : Setting s marks named taken single) → Asked S a k → (v ≡ 1) ↔ FitsDefinition S t a k weak e d
+abbrev pub TellsPair : (s t marks named taken single : List ℕ) (n a k : ℕ) (weak : Bool) (e d v : ℕ) → Type 0
+TellsPair s t marks named taken single n a k weak e d v = (S : Setting s marks named taken single) → Asked S a k → (v ≡ 1) ↔ FitsDefinition S t n a k weak e d
 
 -- nothing but the row of e has changed
 pub record RowKept (before after : List ℕ) (e : ℕ) : Type 0 where
   pub size : length after ≡ length before
   pub kept : (x d : ℕ) → x ≢ e → d < maxRows → pairEntry after x d ≡ pairEntry before x d
 
--- the first n entries of the row of e are told
-pub record RowTold (s t marks named taken single : List ℕ) (a k : ℕ) (weak : Bool) (before after : List ℕ) (e n : ℕ) : Type 0 where
+-- the entries of the row of e before upto are told
+pub record RowTold (s t marks named taken single : List ℕ) (n a k : ℕ) (weak : Bool) (before after : List ℕ) (e upto : ℕ) : Type 0 where
   pub others : RowKept before after e
-  pub told : (d : ℕ) → d < n → TellsPair s t marks named taken single a k weak e d (pairEntry after e d)
+  pub told : (d : ℕ) → d < upto → TellsPair s t marks named taken single n a k weak e d (pairEntry after e d)
 
 -- the attributes a and the items k of element e stand for all of it: its content matches weakly exactly where they fit
 pub record Shown (bytes ends s t items : List ℕ) (e attributes texts a k : ℕ) (weak : Bool) : Type 0 where
@@ -61,8 +58,8 @@ pub record Shown (bytes ends s t items : List ℕ) (e attributes texts a k : ℕ
   pub clean : CleanAt (lookups bytes ends s t) (itemAt bytes ends items texts) (bit k)
   pub ordered : OkAsChildren (lookups bytes ends s t .children e)
   pub content : (p : ℕ) → WeakMatch (lookups bytes ends s t) (NotMatchBy (lookups bytes ends s t) (rowsOf s)) (lookups bytes ends s t .attributes e) (lookups bytes ends s t .children e) (lookups bytes ends s t .pattern p)
-      ↔ (Span (lookups bytes ends s t) (NotMatchBy (lookups bytes ends s t) (rowsOf s)) (attributesIn e a) (itemAt bytes ends items texts) (bit k) p 0 maxWidth
-      ⊎ ((weak ≡ true) × Span (lookups bytes ends s t) (NotMatchBy (lookups bytes ends s t) (rowsOf s)) (attributesIn e a) (itemAt bytes ends items texts) (bit 0) p 0 maxWidth))
+      ↔ (Span (lookups bytes ends s t) (NotMatchBy (lookups bytes ends s t) (rowsOf s)) (attributesIn e a) (itemAt bytes ends items texts) (bit k) p 0 (length items)
+      ⊎ ((weak ≡ true) × Span (lookups bytes ends s t) (NotMatchBy (lookups bytes ends s t) (rowsOf s)) (attributesIn e a) (itemAt bytes ends items texts) (bit 0) p 0 (length items)))
 
 -- the row of element e is right
 pub record RowRight (bytes ends s t before after : List ℕ) (e : ℕ) : Type 0 where
@@ -84,8 +81,18 @@ pub record Filling (bytes ends s t alone nothing blank pairs : List ℕ) (r : �
 pub record Known (bytes ends s t alone nothing blank pairs items : List ℕ) (e attributes a n texts elements : ℕ) : Type 0 where
   pub filling : Filling bytes ends s t alone nothing blank pairs (e + 1)
   pub in-table : e < node.nodesOf t
-  pub element : eqb (node.kindOf t e) node.element ≡ true
   pub counted : Counted t e attributes
   pub few : attributes ≤ maxWidth
   pub all : Collects (λ k. true) attributes a
   pub contents : Contents t e items n texts elements
+
+-- what the items of an element are asked with
+pub record Ready (bytes ends s t alone nothing blank pairs items : List ℕ) (e attributes texts a k : ℕ) (weak : Bool) : Type 0 where
+  pub given : Given bytes ends s t alone nothing blank pairs items e attributes texts
+  pub shown : Shown bytes ends s t items e attributes texts a k weak
+
+-- the first `count` items of after stand for the content that the n items of before are
+pub record StandsFor (blank before after : List ℕ) (n texts elements count strings k : ℕ) (weak : Bool) : Type 0 where
+  pub few : count ≤ maxWidth
+  pub ready : (bytes ends s t alone nothing pairs : List ℕ) (e attributes a : ℕ) → Known bytes ends s t alone nothing blank pairs before e attributes a n texts elements
+      → Ready bytes ends s t alone nothing blank pairs (take count after) e attributes strings a k weak

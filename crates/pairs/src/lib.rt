@@ -2,38 +2,40 @@
 ghost use mathlib.Core.Path.{_≡_};
 ghost use mathlib.Core.Bool.{true, cond};
 ghost use mathlib.Core.List.{List};
-ghost use mathlib.Core.Logic.{_≢_};
 ghost use Prim.Native.Nat.{ℕ, _+_, _*_, _≤_, _<_};
 ghost use lib.Dec.{eqb};
 ghost use lib.ListN.{length, getD, take};
 ghost use Rattle.tables.specs.Answers.{Decides};
+ghost use Rattle.schema.specs.RowRule.{maxRows};
 ghost use Rattle.schema.specs.Rows.{rowsOf};
 ghost use Rattle.instance.specs.Width.{maxWidth};
 ghost use Rattle.matching.specs.Setting.{Setting, Asked, Related};
+ghost use Rattle.instance.specs.NodeRule.{maxNodes};
 ghost use Rattle.instance.specs.Nodes.{nodesOf};
 ghost use Rattle.instance.specs.Elements.{isElement};
 ghost use Rattle.marks.specs.Given.{Given};
 ghost use Rattle.marks.specs.Tests.{Collects};
 ghost use Rattle.pairs.specs.Pairs.{TablesPass, PairsRight};
-ghost use Rattle.pairs.specs.Rows.{Fits, TellsPair, RowTold, Shown, RowRight, isSolid, Filling, Known};
+ghost use Rattle.pairs.specs.Rows.{Fits, TellsPair, RowTold, Shown, RowRight, isSolid, Filling, StandsFor};
 
-// Whether the attributes a and all items of k match the pattern at row p.
+// Whether the attributes a and all items of k, of the first n, match the pattern at row p.
 fn all_match(
     schema: &[u32],
     marks: &[u64],
     named: &[u64],
     taken: &[u64],
     single: &[u64],
+    n: u32,
     a: u64,
     k: u64,
     p: u32,
     work: &mut [u64],
 ) -> bool
-    requires { ⌜ 32768 ≤ length (now work) ⌝ }
-    ensures { λ r. ⌜ ((S : Setting (now (schema .entry)) (now (marks .entry)) (now (named .entry)) (now (taken .entry)) (now (single .entry))) → Asked S a k → p < rowsOf (now (schema .entry)) → Decides (Related S a k p 0 maxWidth) r) ⌝ }
+    requires { ⌜ (32768 ≤ length (now work)) × (n ≤ maxWidth) ⌝ }
+    ensures { λ r. ⌜ ((S : Setting (now (schema .entry)) (now (marks .entry)) (now (named .entry)) (now (taken .entry)) (now (single .entry))) → Asked S a k → p < rowsOf (now (schema .entry)) → Decides (Related S (n + 1) a k p 0 n) r) ⌝ }
 {
-    matching::relate(schema, marks, named, taken, single, a, k, p, work);
-    sets::has(sets::word(work, 0), 63)
+    matching::relate(schema, marks, named, taken, single, n + 1, a, k, p, work);
+    sets::has(sets::word(work, 0), n)
 }
 
 // Whether the content fits the pattern at row p: weak says that it is whitespace.
@@ -43,20 +45,21 @@ fn content_fits(
     named: &[u64],
     taken: &[u64],
     single: &[u64],
+    n: u32,
     a: u64,
     k: u64,
     weak: bool,
     p: u32,
     work: &mut [u64],
 ) -> bool
-    requires { ⌜ 32768 ≤ length (now work) ⌝ }
-    ensures { λ r. ⌜ ((S : Setting (now (schema .entry)) (now (marks .entry)) (now (named .entry)) (now (taken .entry)) (now (single .entry))) → Asked S a k → p < rowsOf (now (schema .entry)) → Decides (Fits S a k weak p) r) ⌝ }
+    requires { ⌜ (32768 ≤ length (now work)) × (n ≤ maxWidth) ⌝ }
+    ensures { λ r. ⌜ ((S : Setting (now (schema .entry)) (now (marks .entry)) (now (named .entry)) (now (taken .entry)) (now (single .entry))) → Asked S a k → p < rowsOf (now (schema .entry)) → Decides (Fits S n a k weak p) r) ⌝ }
 {
-    if all_match(schema, marks, named, taken, single, a, k, p, work) {
+    if all_match(schema, marks, named, taken, single, n, a, k, p, work) {
         return true;
     }
     if weak {
-        return all_match(schema, marks, named, taken, single, a, 0, p, work);
+        return all_match(schema, marks, named, taken, single, n, a, 0, p, work);
     }
     false
 }
@@ -69,6 +72,7 @@ fn pair_at(
     named: &[u64],
     taken: &[u64],
     single: &[u64],
+    n: u32,
     a: u64,
     k: u64,
     weak: bool,
@@ -76,8 +80,8 @@ fn pair_at(
     d: u32,
     work: &mut [u64],
 ) -> u8
-    requires { ⌜ 32768 ≤ length (now work) ⌝ }
-    ensures { λ v. ⌜ (d < rowsOf (now (schema .entry)) → TellsPair (now (schema .entry)) (now (instance .entry)) (now (marks .entry)) (now (named .entry)) (now (taken .entry)) (now (single .entry)) a k weak e d v) ⌝ }
+    requires { ⌜ (32768 ≤ length (now work)) × (n ≤ maxWidth) ⌝ }
+    ensures { λ v. ⌜ (d < rowsOf (now (schema .entry)) → TellsPair (now (schema .entry)) (now (instance .entry)) (now (marks .entry)) (now (named .entry)) (now (taken .entry)) (now (single .entry)) n a k weak e d v) ⌝ }
 {
     if schema::kind(schema, d) != 20 {
         return 0;
@@ -89,7 +93,7 @@ fn pair_at(
         return 0;
     }
     let p = schema::field_b(schema, d);
-    if content_fits(schema, marks, named, taken, single, a, k, weak, p, work) {
+    if content_fits(schema, marks, named, taken, single, n, a, k, weak, p, work) {
         return 1;
     }
     0
@@ -103,6 +107,7 @@ fn pair_row(
     named: &[u64],
     taken: &[u64],
     single: &[u64],
+    n: u32,
     a: u64,
     k: u64,
     weak: bool,
@@ -110,8 +115,8 @@ fn pair_row(
     pairs: &mut [u8],
     work: &mut [u64],
 )
-    requires { ⌜ (32768 ≤ length (now work)) × (524288 ≤ length (now pairs)) × (e < 1024) × (rowsOf (now schema) ≤ 512) ⌝ }
-    ensures { λ _. ⌜ RowTold (now (schema .entry)) (now (instance .entry)) (now (marks .entry)) (now (named .entry)) (now (taken .entry)) (now (single .entry)) a k weak (now (pairs .entry)) (now (pairs .exit)) e (rowsOf (now (schema .entry))) ⌝ }
+    requires { ⌜ (32768 ≤ length (now work)) × (524288 ≤ length (now pairs)) × (e < 1024) × (rowsOf (now schema) ≤ 512) × (n ≤ maxWidth) ⌝ }
+    ensures { λ _. ⌜ RowTold (now (schema .entry)) (now (instance .entry)) (now (marks .entry)) (now (named .entry)) (now (taken .entry)) (now (single .entry)) n a k weak (now (pairs .entry)) (now (pairs .exit)) e (rowsOf (now (schema .entry))) ⌝ }
 {
     let rows = schema.len() / 3;
     let mut d: usize = 0;
@@ -123,6 +128,7 @@ fn pair_row(
             named,
             taken,
             single,
+            n,
             a,
             k,
             weak,
@@ -169,6 +175,39 @@ fn only_string(items: &[u32], n: u32) -> u32
     tables::word(items, 0)
 }
 
+// What stands for a content: the first `count` items, of which `texts` are strings and k are asked for; weak says that they are whitespace.
+struct Content {
+    count: u32,
+    texts: u64,
+    k: u64,
+    weak: bool,
+}
+
+// What stands for a content of n items: with an element among them all but whitespace, and otherwise one string, which is put first.
+fn content_of(blank: &[u8], items: &mut [u32], n: u32, texts: u64, elements: u64) -> Content
+    requires { ⌜ (n ≤ maxWidth) × (64 ≤ length (now items)) ⌝ }
+    ensures { λ r. ⌜ StandsFor (now (blank .entry)) (now (items .entry)) (now (items .exit)) n texts elements (r .count) (r .texts) (r .k) (r .weak) ⌝ }
+{
+    if elements != 0 {
+        let k = solid(blank, first_items(items, n), texts);
+        return Content {
+            count: n,
+            texts: texts,
+            k: k,
+            weak: false,
+        };
+    }
+    let v = only_string(items, n);
+    items[0] = v;
+    let weak = tables::byte(blank, v as usize) == 1;
+    Content {
+        count: 1,
+        texts: 1,
+        k: 1,
+        weak: weak,
+    }
+}
+
 // The entries of element e, from the attributes a and the items k that stand for all of it.
 fn pair_items(
     schema: &[u32],
@@ -190,7 +229,7 @@ fn pair_items(
     single: &mut [u64],
     work: &mut [u64],
 )
-    requires { ⌜ (32768 ≤ length (now work)) × (524288 ≤ length (now pairs)) × (e < 1024) × (rowsOf (now schema) ≤ 512) × (512 ≤ length (now marks)) × (512 ≤ length (now named)) × (512 ≤ length (now taken)) × (512 ≤ length (now single)) ⌝ }
+    requires { ⌜ (32768 ≤ length (now work)) × (524288 ≤ length (now pairs)) × (e < 1024) × (rowsOf (now schema) ≤ 512) × (512 ≤ length (now marks)) × (512 ≤ length (now named)) × (512 ≤ length (now taken)) × (512 ≤ length (now single)) × (length (now items) ≤ maxWidth) ⌝ }
     ensures { λ _. ⌜ ((bytes ends : List ℕ) → Given bytes ends (now (schema .entry)) (now (instance .entry)) (now (alone .entry)) (now (nothing .entry)) (now (blank .entry)) (now (pairs .entry)) (now (items .entry)) e attributes texts → isElement (now (instance .entry)) e ≡ true → Shown bytes ends (now (schema .entry)) (now (instance .entry)) (now (items .entry)) e attributes texts a k weak → RowRight bytes ends (now (schema .entry)) (now (instance .entry)) (now (pairs .entry)) (now (pairs .exit)) e) ⌝ }
 {
     marks::mark(
@@ -216,106 +255,12 @@ fn pair_items(
         named,
         taken,
         single,
+        items.len() as u32,
         a,
         k,
         weak,
         e,
         pairs,
-        work,
-    );
-}
-
-// The entries of an element with an element among its children: whitespace is left out.
-fn pair_mixed(
-    schema: &[u32],
-    instance: &[u32],
-    alone: &[u8],
-    nothing: &[u8],
-    blank: &[u8],
-    e: u32,
-    attributes: u32,
-    a: u64,
-    items: &[u32],
-    n: u32,
-    texts: u64,
-    pairs: &mut [u8],
-    marks: &mut [u64],
-    named: &mut [u64],
-    taken: &mut [u64],
-    single: &mut [u64],
-    work: &mut [u64],
-)
-    requires { ⌜ (32768 ≤ length (now work)) × (524288 ≤ length (now pairs)) × (e < 1024) × (rowsOf (now schema) ≤ 512) × (512 ≤ length (now marks)) × (512 ≤ length (now named)) × (512 ≤ length (now taken)) × (512 ≤ length (now single)) × (n ≤ 63) × (64 ≤ length (now items)) ⌝ }
-    ensures { λ _. ⌜ ((bytes ends : List ℕ) (elements : ℕ) → Known bytes ends (now (schema .entry)) (now (instance .entry)) (now (alone .entry)) (now (nothing .entry)) (now (blank .entry)) (now (pairs .entry)) (now (items .entry)) e attributes a n texts elements → elements ≢ 0 → RowRight bytes ends (now (schema .entry)) (now (instance .entry)) (now (pairs .entry)) (now (pairs .exit)) e) ⌝ }
-{
-    let content = first_items(items, n);
-    let k = solid(blank, content, texts);
-    pair_items(
-        schema,
-        instance,
-        alone,
-        nothing,
-        blank,
-        e,
-        attributes,
-        content,
-        texts,
-        a,
-        k,
-        false,
-        pairs,
-        marks,
-        named,
-        taken,
-        single,
-        work,
-    );
-}
-
-// The entries of an element with no element among its children: its content is one string.
-fn pair_simple(
-    schema: &[u32],
-    instance: &[u32],
-    alone: &[u8],
-    nothing: &[u8],
-    blank: &[u8],
-    e: u32,
-    attributes: u32,
-    a: u64,
-    items: &mut [u32],
-    n: u32,
-    pairs: &mut [u8],
-    marks: &mut [u64],
-    named: &mut [u64],
-    taken: &mut [u64],
-    single: &mut [u64],
-    work: &mut [u64],
-)
-    requires { ⌜ (32768 ≤ length (now work)) × (524288 ≤ length (now pairs)) × (e < 1024) × (rowsOf (now schema) ≤ 512) × (512 ≤ length (now marks)) × (512 ≤ length (now named)) × (512 ≤ length (now taken)) × (512 ≤ length (now single)) × (64 ≤ length (now items)) ⌝ }
-    ensures { λ _. ⌜ ((bytes ends : List ℕ) (texts elements : ℕ) → Known bytes ends (now (schema .entry)) (now (instance .entry)) (now (alone .entry)) (now (nothing .entry)) (now (blank .entry)) (now (pairs .entry)) (now (items .entry)) e attributes a n texts elements → elements ≡ 0 → RowRight bytes ends (now (schema .entry)) (now (instance .entry)) (now (pairs .entry)) (now (pairs .exit)) e) ⌝ }
-{
-    let v = only_string(items, n);
-    items[0] = v;
-    let weak = tables::byte(blank, v as usize) == 1;
-    let content = first_items(items, 1);
-    pair_items(
-        schema,
-        instance,
-        alone,
-        nothing,
-        blank,
-        e,
-        attributes,
-        content,
-        1,
-        a,
-        1,
-        weak,
-        pairs,
-        marks,
-        named,
-        taken,
-        single,
         work,
     );
 }
@@ -348,29 +293,9 @@ fn pair_element(
     if instance::MAX_WIDTH < n {
         return;
     }
-    if elements != 0 {
-        pair_mixed(
-            schema,
-            instance,
-            alone,
-            nothing,
-            blank,
-            e,
-            attributes,
-            a,
-            items,
-            n,
-            texts,
-            pairs,
-            marks,
-            named,
-            taken,
-            single,
-            work,
-        );
-        return;
-    }
-    pair_simple(
+    let content = content_of(blank, items, n, texts, elements);
+    let count = content.count;
+    pair_items(
         schema,
         instance,
         alone,
@@ -378,9 +303,11 @@ fn pair_element(
         blank,
         e,
         attributes,
+        first_items(items, count),
+        content.texts,
         a,
-        items,
-        n,
+        content.k,
+        content.weak,
         pairs,
         marks,
         named,
@@ -466,4 +393,44 @@ fn pair_all(
             work,
         );
     }
+}
+
+// The table of pairs of tables that pass, with room for every instance row and every schema row; a table without that room is left as it is.
+pub fn pair_table(bytes: &[u8], ends: &[u32], schema: &[u32], instance: &[u32], pairs: &mut [u8])
+    ensures { λ _. ⌜ (maxNodes * maxRows ≤ length (now (pairs .entry)) → TablesPass (now (bytes .entry)) (now (ends .entry)) (now (schema .entry)) (now (instance .entry)) → PairsRight (now (bytes .entry)) (now (ends .entry)) (now (schema .entry)) (now (instance .entry)) (now (pairs .exit))) ⌝ }
+{
+    if pairs.len() < 524288 {
+        return;
+    }
+    if 512 < schema.len() / 3 {
+        return;
+    }
+    if 1024 < instance.len() / 5 {
+        return;
+    }
+    tables::zero_u8(pairs);
+    let mut alone = [0u8; 262144];
+    let mut nothing = [0u8; 512];
+    let mut blank = [0u8; 512];
+    alone::fill(bytes, ends, schema, &mut alone, &mut nothing, &mut blank);
+    let mut items = [0u32; 64];
+    let mut marks = [0u64; 512];
+    let mut named = [0u64; 512];
+    let mut taken = [0u64; 512];
+    let mut single = [0u64; 512];
+    let mut work = [0u64; 32768];
+    pair_all(
+        schema,
+        instance,
+        &alone,
+        &nothing,
+        &blank,
+        &mut items,
+        pairs,
+        &mut marks,
+        &mut named,
+        &mut taken,
+        &mut single,
+        &mut work,
+    );
 }

@@ -7,6 +7,11 @@ use Rattle.relaxng.specs.declared.Membership.{Membership}
 use Rattle.relaxng.specs.declared.Membership.the-variants.{Yes, No, NotJudged}
 use Rattle.relaxng.specs.declared.CommonName.{CommonName}
 use Rattle.relaxng.specs.declared.CommonName.the-variants.{Least, None, NotSought}
+use Rattle.relaxng.specs.declared.Validation.{Validation}
+use Rattle.relaxng.specs.declared.Validation.the-variants.{Valid, NotValid, NotValidated}
+use Rattle.relaxng.specs.declared.Matches.{Matches}
+use Rattle.relaxng.specs.declared.Matches.the-variants as matches
+use Rattle.relaxng.specs.declared.Matches.the-variants.{NotMatched}
 use Rattle.classes.specs.declared.Found.{Found}
 use Rattle.classes.specs.declared.Found.the-variants.{Name, Nothing}
 
@@ -21,7 +26,17 @@ commonVerdict (Least namespace local) = Passed
 commonVerdict None = Passed
 commonVerdict (NotSought code place) = Refused code place
 
--- what it answers
+abbrev pub validationVerdict : Validation → Verdict
+validationVerdict Valid = Passed
+validationVerdict NotValid = Passed
+validationVerdict (NotValidated code place) = Refused code place
+
+abbrev pub matchesVerdict : Matches → Verdict
+matchesVerdict (matches.Valid pairs) = Passed
+matchesVerdict (matches.NotValid pairs) = Passed
+matchesVerdict (NotMatched code place) = Refused code place
+
+-- what it answers; no, none or 0 beside a refusal
 abbrev pub isYes : Membership → Bool
 isYes Yes = true
 isYes No = false
@@ -31,6 +46,21 @@ abbrev pub foundName : CommonName → Found
 foundName (Least namespace local) = Name namespace local
 foundName None = Nothing
 foundName (NotSought code place) = Nothing
+
+abbrev pub isValid : Validation → Bool
+isValid Valid = true
+isValid NotValid = false
+isValid (NotValidated code place) = false
+
+abbrev pub isMatched : Matches → Bool
+isMatched (matches.Valid pairs) = true
+isMatched (matches.NotValid pairs) = false
+isMatched (NotMatched code place) = false
+
+abbrev pub pairCount : Matches → ℕ
+pairCount (matches.Valid pairs) = pairs
+pairCount (matches.NotValid pairs) = pairs
+pairCount (NotMatched code place) = 0
 
 -- the answer of a refusal, and of a search
 abbrev pub notJudged : Verdict → Membership
@@ -44,3 +74,20 @@ notSought (Refused code place) = NotSought code place
 abbrev pub commonName : Found → CommonName
 commonName (Name namespace local) = Least namespace local
 commonName Nothing = None
+
+abbrev pub notValidated : Verdict → Validation
+notValidated Passed = NotValid
+notValidated (Refused code place) = NotValidated code place
+
+abbrev pub notMatched : Verdict → Matches
+notMatched Passed = NotMatched 0 0
+notMatched (Refused code place) = NotMatched code place
+
+-- the answer where nothing is refused
+abbrev pub matchesOf : Bool → ℕ → Matches
+matchesOf true pairs = matches.Valid pairs
+matchesOf false pairs = matches.NotValid pairs
+
+abbrev pub validationOf : Bool → Validation
+validationOf true = Valid
+validationOf false = NotValid

@@ -1,10 +1,13 @@
 // The public calls.
 use classes::Found;
+use listing::Listed;
 use tables::Checked;
 use tables::Verdict;
 ghost use mathlib.Core.Path.{_≡_};
+ghost use lib.ListN.{length};
 ghost use Rattle.tables.specs.Refusals.{Passes};
-ghost use Rattle.relaxng.specs.Answers.{notJudged, notSought, commonName};
+ghost use Rattle.relaxng.specs.Answers.{notJudged, notSought, commonName, notValidated, notMatched, matchesOf, validationOf};
+ghost use Rattle.relaxng.specs.Matching.{InstanceRefusal, GivesVerdict, ListsMatches};
 ghost use Rattle.relaxng.specs.Promises.{SchemaRefusal, NameInClass, LeastCommonName};
 
 // Whether a name is in a class, or the refusal with its code and place.
@@ -19,6 +22,20 @@ pub enum CommonName {
     Least(u32, u32),
     None,
     NotSought(u32, u32),
+}
+
+// Whether an instance is valid by a schema, or the refusal with its code and place.
+pub enum Validation {
+    Valid,
+    NotValid,
+    NotValidated(u32, u32),
+}
+
+// Whether an instance is valid by a schema, with the number of pairs of the match list; or the refusal with its code and place.
+pub enum Matches {
+    Valid(u32),
+    NotValid(u32),
+    NotMatched(u32, u32),
 }
 
 // Whether a schema keeps the simple form and the restrictions: codes 1 to 8.
@@ -108,4 +125,94 @@ pub fn least_common_name(
         return CommonName::NotSought(11, second);
     }
     common_name(classes::least_common(schema, first, second))
+}
+
+// Whether schema and instance keep their rules: codes 1 to 10.
+fn instance_verdict(bytes: &[u8], ends: &[u32], schema: &[u32], instance: &[u32]) -> Verdict
+    ensures { λ r. ⌜ InstanceRefusal (now (bytes .entry)) (now (ends .entry)) (now (schema .entry)) (now (instance .entry)) Passes r ⌝ }
+{
+    let passed = schema_verdict(bytes, ends, schema);
+    let Verdict::Passed = passed else {
+        return passed;
+    };
+    let nodes = nodes::check_nodes(ends.len(), instance);
+    let Checked::Fine = nodes else {
+        return tables::refusal(9, nodes);
+    };
+    tables::refusal(10, width::check_width(instance))
+}
+
+// The refusal of a verdict, as an answer on an instance; NotValid where nothing is refused.
+fn not_validated(verdict: Verdict) -> Validation
+    ensures { λ r. ⌜ r ≡ notValidated verdict ⌝ }
+{
+    match verdict {
+        Verdict::Passed => Validation::NotValid,
+        Verdict::Refused(code, place) => Validation::NotValidated(code, place),
+    }
+}
+
+// Whether the instance is valid by the schema: codes 1 to 10.
+pub fn verdict(bytes: &[u8], ends: &[u32], schema: &[u32], instance: &[u32]) -> Validation
+    ensures { λ r. ⌜ GivesVerdict (now (bytes .entry)) (now (ends .entry)) (now (schema .entry)) (now (instance .entry)) r ⌝ }
+{
+    let passed = instance_verdict(bytes, ends, schema, instance);
+    let Verdict::Passed = passed else {
+        return not_validated(passed);
+    };
+    let mut pairs = [0u8; 524288];
+    pairs::pair_table(bytes, ends, schema, instance, &mut pairs);
+    if validity::valid(schema, &pairs) {
+        Validation::Valid
+    } else {
+        Validation::NotValid
+    }
+}
+
+// The refusal of a verdict, as an answer on a match list; a refusal with code and place 0 where nothing is refused.
+fn not_matched(verdict: Verdict) -> Matches
+    ensures { λ r. ⌜ r ≡ notMatched verdict ⌝ }
+{
+    match verdict {
+        Verdict::Passed => Matches::NotMatched(0, 0),
+        Verdict::Refused(code, place) => Matches::NotMatched(code, place),
+    }
+}
+
+// Valid or not, with the number of pairs.
+fn matches_of(valid: bool, pairs: u32) -> Matches
+    ensures { λ r. ⌜ r ≡ matchesOf valid pairs ⌝ }
+{
+    if valid {
+        Matches::Valid(pairs)
+    } else {
+        Matches::NotValid(pairs)
+    }
+}
+
+// The match list, with the number of pairs and valid or not: codes 1 to 10, then 12.
+pub fn match_list(
+    bytes: &[u8],
+    ends: &[u32],
+    schema: &[u32],
+    instance: &[u32],
+    list: &mut [u32],
+) -> Matches
+    ensures { λ r. ⌜ ListsMatches (now (bytes .entry)) (now (ends .entry)) (now (schema .entry)) (now (instance .entry)) (length (now (list .entry))) (now (list .exit)) r ⌝ }
+{
+    let passed = instance_verdict(bytes, ends, schema, instance);
+    let Verdict::Passed = passed else {
+        tables::zero_u32(list);
+        return not_matched(passed);
+    };
+    let mut pairs = [0u8; 524288];
+    pairs::pair_table(bytes, ends, schema, instance, &mut pairs);
+    let mut rows = [0u32; 512];
+    let n = definitions::definitions(schema, &mut rows) as usize;
+    let nodes = instance.len() / 5;
+    let listed = listing::list_pairs(&pairs, &rows[..n], nodes as u32, list);
+    let Listed::Pairs(number) = listed else {
+        return Matches::NotMatched(12, 0);
+    };
+    matches_of(validity::valid(schema, &pairs), number)
 }

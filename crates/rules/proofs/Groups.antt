@@ -6,7 +6,7 @@ use mathlib.Core.List.{List}
 use mathlib.Core.Logic.{_↔_}
 use native.Mathlib.Omega.{arith}
 use Rattle.schema.specs.Views.{group, interleave}
-use Rattle.sets.specs.Relations.{And, Then}
+use Rattle.relations.specs.Relations.{And, Then}
 use Rattle.rules.specs.Items.{Item, Attributes, _∪_, Lookups}
 use Rattle.rules.specs.Rules.{Match}
 use Rattle.rules.proofs.Booleans.{_∩_, _∖_, or-left, or-right, is-false, both-parts, first-part, second-part}

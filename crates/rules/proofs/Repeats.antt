@@ -9,7 +9,7 @@ use lib.Dec.{eqb}
 use borrow.Author.Tests.{eqb-true}
 use Rattle.schema.specs.Views.{Pattern}
 use Rattle.schema.specs.Views as pattern
-use Rattle.sets.specs.Relations.{Plus, once, more}
+use Rattle.relations.specs.Relations.{Plus, once, more}
 use Rattle.rules.specs.Items.{Item, Attributes, none, only, _∪_, Lookups}
 use Rattle.rules.specs.Rules.{Disjoint, Match, choice-1, choice-2, group, empty, text-1, text-2, oneOrMore-1, oneOrMore-2, interleave, attribute, element, value, data-1, data-2}
 use Rattle.rules.proofs.Booleans.{_∖_, or-either, and-left, no-member, ∖-only, one-and-rest, none-left, none-right}

@@ -6,7 +6,7 @@ use mathlib.Core.List.{List, [], _∷_, _++_}
 use mathlib.Core.Logic.{inl, inr, _↔_, Iff·rfl}
 use native.Mathlib.Omega.{arith}
 use Rattle.schema.specs.Views.{Pattern, empty, notAllowed, text, dataAll, dataExcept, value, attribute, ref, choice, noPattern}
-use Rattle.sets.specs.Relations.{Relation, Or}
+use Rattle.relations.specs.Relations.{Relation, Or}
 use Rattle.rules.specs.Items.{Item, element, Attributes, none, Lookups}
 use Rattle.rules.specs.Rules.{Match, ws-empty}
 use Rattle.rules.proofs.Inversion.{One, cast, AttributeMatch, ElementMatch, Paired, Step, stepwise}

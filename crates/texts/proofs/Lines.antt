@@ -1,7 +1,8 @@
 -- The text of lines, one line after another.
 use mathlib.Core.Path.{_≡_, refl, sym, _∙_, ap, subst}
+use mathlib.Core.Bool.{Bool}
 use mathlib.Core.List.{List, [], _∷_, _++_, append-assoc}
-use Prim.Native.Nat.{ℕ, zero, suc, _+_, _*_, _≤_, _<_}
+use Prim.Native.Nat.{ℕ, zero, suc, _+_, _*_, _/_, _≤_, _<_}
 use native.Mathlib.Omega.{arith}
 use native.Mathlib.Numerals.{add-one}
 use native.Mathlib.Nat.{zero-add, add-zero, add-comm, suc-mul, zero-mul, mul-le-mul-right}
@@ -11,9 +12,10 @@ use Rattle.strings.specs.Strings.{textOf}
 use Rattle.schema.specs.Rows.{rowsOf}
 use Rattle.instance.specs.Nodes.{nodesOf}
 use Rattle.jobs.specs.Ascii.{ascii}
-use Rattle.jobs.specs.Lines.{lineFeed, textOfLines}
+use Rattle.jobs.specs.Lines.{lineFeed, comma, textOfLines}
 use Rattle.jobs.specs.Numbers.{decimal, wordsText, hexText}
 use Rattle.jobs.specs.Written.{stringLines, rowLines, jobText}
+use Rattle.jobs.specs.Reported.{validLine, matchText, refusalText}
 use Rattle.texts.specs.Writing.{Wrote}
 use Rattle.texts.proofs.Writing.{wrote-none, wrote-more, wrote-as}
 
@@ -95,3 +97,22 @@ wrote-job bytes ends schema instance a b c d e f g h =
     (wrote-line (ascii "schema=" ++ decimal (rowsOf schema)) (rowLines (ascii "row=") 3 (rowsOf schema) schema) d e))
     (wrote-line (ascii "instance=" ++ decimal (nodesOf instance)) (rowLines (ascii "node=") 5 (nodesOf instance) instance) f g))
     (wrote-line (ascii "end=1") [] h (wrote-none _ _))
+
+-- what `check` prints
+pub wrote-matches : {out : List ℕ} (valid : Bool) (words : List ℕ) {o₁ o₂ o₃ : List ℕ} {p₁ p₂ p₃ : ℕ}
+    → Wrote out 0 (validLine valid ++ lineFeed ∷ []) o₁ p₁
+    → Wrote o₁ p₁ ((ascii "pairs=" ++ decimal (length words / 2)) ++ lineFeed ∷ []) o₂ p₂
+    → Wrote o₂ p₂ (textOfLines (rowLines (ascii "pair=") 2 (length words / 2) words)) o₃ p₃
+    → Wrote out 0 (matchText valid words) o₃ p₃
+wrote-matches valid words a b c =
+    let pairs = rowLines (ascii "pair=") 2 (length words / 2) words in
+    wrote-line (validLine valid) ((ascii "pairs=" ++ decimal (length words / 2)) ∷ pairs) a (wrote-line (ascii "pairs=" ++ decimal (length words / 2)) pairs b c)
+
+pub wrote-refusal : {out : List ℕ} (code place : ℕ) {o₁ o₂ o₃ o₄ o₅ : List ℕ} {p₁ p₂ p₃ p₄ p₅ : ℕ}
+    → Wrote out 0 (ascii "refusal=") o₁ p₁
+    → Wrote o₁ p₁ (decimal code) o₂ p₂
+    → Wrote o₂ p₂ (comma ∷ []) o₃ p₃
+    → Wrote o₃ p₃ (decimal place) o₄ p₄
+    → Wrote o₄ p₄ (lineFeed ∷ []) o₅ p₅
+    → Wrote out 0 (refusalText code place) o₅ p₅
+wrote-refusal code place a b c d e = wrote-more (wrote-more (wrote-more a b) (wrote-more c d)) e

@@ -4,16 +4,17 @@ use mathlib.Core.Logic.{_≢_}
 use mathlib.Core.List.{List, [], _∷_, _++_, append-assoc}
 use Prim.Native.Nat.{ℕ, zero, suc, _+_, _-_, _*_, _/_, _%_, _≤_, _<_}
 use native.Mathlib.Omega.{arith}
-use native.Mathlib.Nat.{add-zero, le-trans, min-le-right}
+use native.Mathlib.Nat.{zero-add, add-zero, le-trans, min-le-right}
 use native.Mathlib.Numerals.{add-one}
-use lib.ListN.{length, take, drop, getD, set, length-append, length-take, length-drop}
+use lib.ListN.{length, take, drop, getD, set, length-append, length-take, length-drop, length-replicate}
 use lib.Seq.{sets, set-out, length-sets, take-suc, take-all, length-take-le, getD-take, getD-drop}
-use Rattle.tables.proofs.Stores.{sets-append}
+use Rattle.tables.specs.Outputs.{zeros, laid}
+use Rattle.tables.proofs.Stores.{sets-append, sets-laid}
 use Rattle.strings.specs.Strings.{startOf, endOf, textOf}
 use borrow.Author.Tests.{eq-eqb, ne-eqb}
 use Rattle.jobs.specs.Numbers.{largestWord, decimal, wordText, wordsText, hexDigit, hexText}
 use Rattle.jobs.proofs.Decimals.{word-length}
-use Rattle.texts.specs.Writing.{Wrote}
+use Rattle.texts.specs.Writing.{Wrote, Kept, TextIn}
 
 pub wrote-none : (out : List ℕ) (at : ℕ) → Wrote out at [] out at
 wrote-none out at = record { holds = refl; moves = sym (add-zero at) }
@@ -35,6 +36,30 @@ wrote-as {out} {at} {a} {b} {end} {q} e w = rw (← e) w
 
 pub wrote-length : {out : List ℕ} {at : ℕ} {a : List ℕ} {end : List ℕ} {q : ℕ} → Wrote out at a end q → length end ≡ length out
 wrote-length {out} {at} {a} w = ap length (w .holds) ∙ length-sets out at a
+
+-- a text put at the front of zeros, and kept where it fits
+pub text-in : {text out mid end : List ℕ} {room n r : ℕ} → out ≡ zeros room → Wrote out 0 text mid n → Kept mid n end r → TextIn text room end r
+text-in {text} {out} {mid} {end} {room} {n} {r} z w k = record { fits = fits; short = short }
+  where
+    size : length mid ≡ room
+    size = wrote-length w ∙ ap length z ∙ length-replicate {A = ℕ} room 0
+
+    count : n ≡ length text
+    count = w .moves ∙ zero-add (length text)
+
+    fits : length text ≤ room → (end ≡ laid room text) × (r ≡ length text)
+    fits h =
+        let s = size in
+        let c = count in
+        let q = k .fits (omega arith) in
+        (q .0 ∙ w .holds ∙ ap (λ (o : List ℕ). sets o 0 text) z ∙ sets-laid room text h, q .1 ∙ count)
+
+    short : room < length text → (end ≡ zeros room) × (r ≡ 0)
+    short h =
+        let s = size in
+        let c = count in
+        let q = k .short (omega arith) in
+        (q .0 ∙ ap zeros size, q .1)
 
 -- what was written of a list of bytes or words, the first i of them
 pub record Front (text : List ℕ → List ℕ) (out : List ℕ) (at : ℕ) (l : List ℕ) (now : List ℕ) (i p : ℕ) : Type 0 where

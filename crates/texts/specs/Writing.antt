@@ -1,8 +1,9 @@
 -- What a step of the writer does: it puts a text into an output from a position on, as far as it fits, and answers with the position after it.
-use Prim.Native.Nat.{ℕ, _+_, _%_, _≤_}
+use Prim.Native.Nat.{ℕ, _+_, _%_, _≤_, _<_}
 use mathlib.Core.Path.{_≡_}
 use mathlib.Core.List.{List}
 use lib.ListN.{length}
+use Rattle.tables.specs.Outputs.{zeros, laid}
 use lib.Seq.{sets}
 use Rattle.strings.specs.Strings.{maxStrings, maxBytes}
 use Rattle.schema.specs.Rows.{rowsOf}
@@ -31,3 +32,13 @@ pub record Sized (bytes ends schema instance : List ℕ) : Type 0 where
 -- the whole text of tables that keep their limits
 abbrev pub PutsJob : List ℕ → List ℕ → List ℕ → List ℕ → List ℕ → List ℕ → ℕ → Type 0
 PutsJob bytes ends schema instance out out′ r = Sized bytes ends schema instance → Wrote out 0 (jobText bytes ends schema instance) out′ r
+
+-- a text of so many bytes was put; it stays where it fits, and is taken back to zeros where it does not
+pub record Kept (before : List ℕ) (n : ℕ) (after : List ℕ) (r : ℕ) : Type 0 where
+  pub fits : n ≤ length before → (after ≡ before) × (r ≡ n)
+  pub short : length before < n → (after ≡ zeros (length before)) × (r ≡ 0)
+
+-- a text in an output of so many bytes, with zeros after it, and its length; zeros throughout and 0 where the output is too short
+pub record TextIn (text : List ℕ) (room : ℕ) (out : List ℕ) (r : ℕ) : Type 0 where
+  pub fits : length text ≤ room → (out ≡ laid room text) × (r ≡ length text)
+  pub short : room < length text → (out ≡ zeros room) × (r ≡ 0)

@@ -1,7 +1,7 @@
-// The text of a job, put into a lent output as far as it fits.
+// Texts put into a lent output as far as they fit: that of a job, and what `check` prints.
 ghost use mathlib.Core.Path.{_≡_};
 ghost use mathlib.Core.List.{[], _∷_, _++_};
-ghost use Prim.Native.Nat.{_+_, _*_, _≤_, _<_};
+ghost use Prim.Native.Nat.{_+_, _*_, _%_, _≤_, _<_};
 ghost use lib.ListN.{length, take, drop};
 ghost use Rattle.tables.specs.Answers.{Decides};
 ghost use Rattle.strings.specs.Strings.{textOf, maxStrings, maxBytes};
@@ -9,7 +9,8 @@ ghost use Rattle.jobs.specs.Ascii.{ascii};
 ghost use Rattle.jobs.specs.Lines.{lineFeed, textOfLines};
 ghost use Rattle.jobs.specs.Numbers.{decimal, wordText, wordsText, hexDigit, hexText};
 ghost use Rattle.jobs.specs.Written.{stringLines, rowLines, jobText};
-ghost use Rattle.texts.specs.Writing.{Wrote, far, Sized, PutsJob};
+ghost use Rattle.jobs.specs.Reported.{validLine, matchText, refusalText};
+ghost use Rattle.texts.specs.Writing.{Wrote, far, Sized, PutsJob, Kept, TextIn};
 
 // A byte; past the end of the output it is counted and not stored.
 fn put(out: &mut [u8], at: usize, b: u8) -> usize
@@ -164,9 +165,9 @@ fn put_rows(
     width: usize,
     rows: usize,
 ) -> usize
-    requires { ⌜ (0 < width) × (width ≤ 5) × (length (now table) ≡ rows * width) × (length (now key) ≤ 5) × (rows ≤ 1024) × (at ≤ 100000000) ⌝ }
+    requires { ⌜ (0 < width) × (width ≤ 5) × (length (now table) ≡ rows * width) × (length (now key) ≤ 5) × (rows ≤ 8192) × (at ≤ 100000000) ⌝ }
     ensures { λ r. ⌜ Wrote (now (out .entry)) at (textOfLines (rowLines (now (key .entry)) width rows (now (table .entry)))) (now (out .exit)) r ⌝ }
-    ensures near { λ r. ⌜ r ≤ at + 102400 ⌝ }
+    ensures near { λ r. ⌜ r ≤ at + 819200 ⌝ }
 {
     let mut i = 0;
     let mut first = 0;
@@ -235,4 +236,75 @@ pub fn put_job(
         return put_parts(out, bytes, ends, schema, instance);
     }
     0
+}
+
+// The line of the verdict.
+fn put_valid(out: &mut [u8], valid: bool) -> usize
+    ensures { λ r. ⌜ Wrote (now (out .entry)) 0 (validLine valid ++ lineFeed ∷ []) (now (out .exit)) r ⌝ }
+    ensures near { λ r. ⌜ r ≤ 10 ⌝ }
+{
+    if valid {
+        return put_text(out, 0, b"valid=yes\n");
+    }
+    put_text(out, 0, b"valid=no\n")
+}
+
+// The verdict, the number of pairs and the pairs.
+fn put_matches(out: &mut [u8], valid: bool, list: &[u32]) -> usize
+    requires { ⌜ (length (now list) ≤ 16384) × (length (now list) % 2 ≡ 0) ⌝ }
+    ensures { λ r. ⌜ Wrote (now (out .entry)) 0 (matchText valid (now (list .entry))) (now (out .exit)) r ⌝ }
+    ensures near { λ r. ⌜ r ≤ 820000 ⌝ }
+{
+    let n = list.len() / 2;
+    let p = put_valid(out, valid);
+    let q = put_count(out, p, b"pairs=", n as u32);
+    put_rows(out, q, b"pair=", list, 2, n)
+}
+
+// The line of a refusal.
+fn put_refusal(out: &mut [u8], code: u32, place: u32) -> usize
+    ensures { λ r. ⌜ Wrote (now (out .entry)) 0 (refusalText code place) (now (out .exit)) r ⌝ }
+    ensures near { λ r. ⌜ r ≤ 40 ⌝ }
+{
+    let p = put_text(out, 0, b"refusal=");
+    let q = put_number(out, p, code);
+    let s = put(out, q, b',');
+    let t = put_number(out, s, place);
+    put(out, t, b'\n')
+}
+
+// The length of a text that was put, or 0 with the output zeroed where it is too short for the text.
+fn kept(out: &mut [u8], length: usize) -> u32
+    requires { ⌜ length ≤ 820000 ⌝ }
+    ensures { λ r. ⌜ Kept (now (out .entry)) length (now (out .exit)) r ⌝ }
+{
+    if out.len() < length {
+        tables::zero_u8(out);
+        return 0;
+    }
+    length as u32
+}
+
+// What `check` prints for a match list of at most 8,192 pairs, whose words are lent; of another nothing is written.
+pub fn write_matches(valid: bool, list: &[u32], out: &mut [u8]) -> u32
+    ensures { λ r. ⌜ (length (now (list .entry)) ≤ 16384 → length (now (list .entry)) % 2 ≡ 0 → TextIn (matchText valid (now (list .entry))) (length (now (out .entry))) (now (out .exit)) r) ⌝ }
+{
+    tables::zero_u8(out);
+    if 16384 < list.len() {
+        return 0;
+    }
+    if list.len() % 2 != 0 {
+        return 0;
+    }
+    let length = put_matches(out, valid, list);
+    kept(out, length)
+}
+
+// What `check` prints for a refusal.
+pub fn write_refusal(code: u32, place: u32, out: &mut [u8]) -> u32
+    ensures { λ r. ⌜ TextIn (refusalText code place) (length (now (out .entry))) (now (out .exit)) r ⌝ }
+{
+    tables::zero_u8(out);
+    let length = put_refusal(out, code, place);
+    kept(out, length)
 }

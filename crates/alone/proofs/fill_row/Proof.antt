@@ -1,74 +1,120 @@
--- The first k entries of the row are right.
-use Prim.Native.Nat.{ℕ, _-_, _≤_}
-use Rattle.alone.proofs.Filling.{row-none, row-more}
+-- One law a kind.
+use Rattle.alone.proofs.RowKinds.{made-text, made-data, made-oneOrMore, made-choice, made-group, made-interleave, made-rest}
+use mathlib.Core.Path.{sym, _∙_}
+use denote.Ref.{now}
+use borrow.Author.Needs.{needs}
 use Rattle.alone.proofs.fill_row.Statement.{statement}
 use Rattle.alone.proofs.fill_row.Tie as tie
-use Rattle.alone.specs.Alone.{Alone}
-use Rattle.alone.specs.Rows.{RowFilled}
-use Rattle.restrictions.proofs.Passes.{SchemaPasses}
-use borrow.Author.Needs.{needs}
-use denote.Ref.{now}
-use lib.ListN.{length, length-set}
-use mathlib.Core.Path.{_≡_, refl, subst}
-use native.Mathlib.Omega.{arith}
 
-abbrev Inv-loop : tie.InvT-loop
-Inv-loop bytes ends schema alone₀ nothing p k₀ alone k = (k ≤ length ends) × (length alone ≡ length alone₀) × (SchemaPasses (length ends) schema → Alone bytes ends schema alone₀ nothing p → RowFilled bytes ends schema alone₀ alone p k)
+kind-requires : tie.Need-kind-requires
+kind-requires c κs = search needs
 
-abbrev μ-loop : tie.MeasureT-loop
-μ-loop bytes ends schema alone₀ nothing p k₀ alone k = length ends - k
+field-a-requires : tie.Need-field-a-requires
+field-a-requires c κs = search needs
 
-loop-holds : tie.Need-loop-holds Inv-loop μ-loop
-loop-holds c = (omega arith, refl, λ u a. row-none)
+field-b-requires : tie.Need-field-b-requires
+field-b-requires c κs = search needs
 
-cast-loop : tie.Need-cast-loop Inv-loop μ-loop
-cast-loop c = let i = c .loop .inv in let x = i .0 in let y = i .1 in omega arith
+fill-same-requires : tie.Need-fill-same-requires
+fill-same-requires c κs = search needs
 
-string-at-requires : tie.Need-string-at-requires Inv-loop μ-loop
-string-at-requires c κs = search needs
+fill-data-requires : tie.Need-fill-data-requires
+fill-data-requires c κs = search needs
 
-mul-alone : tie.Need-mul-alone Inv-loop μ-loop
-mul-alone c = let i = c .before .before .before .loop .inv in let x = i .0 in let y = i .1 in omega arith
+fill-value-requires : tie.Need-fill-value-requires
+fill-value-requires c κs = search needs
 
-cast-alone : tie.Need-cast-alone Inv-loop μ-loop
-cast-alone c = let i = c .before .before .before .loop .inv in let x = i .0 in let y = i .1 in omega arith
+fill-either-requires : tie.Need-fill-either-requires
+fill-either-requires c κs = search needs
 
-add-alone : tie.Need-add-alone Inv-loop μ-loop
-add-alone c = let i = c .before .before .before .loop .inv in let x = i .0 in let y = i .1 in omega arith
+fill-either-requires-2 : tie.Need-fill-either-requires-2
+fill-either-requires-2 c κs = search needs
 
-slice-write-alone : tie.Need-slice-write-alone Inv-loop μ-loop
-slice-write-alone c = let i = c .before .before .before .loop .inv in let x = i .0 in let y = i .1 in omega arith
+fill-one-requires : tie.Need-fill-one-requires
+fill-one-requires c κs = search needs
 
-add-k : tie.Need-add-k Inv-loop μ-loop
-add-k c = let i = c .before .before .before .loop .inv in let x = i .0 in let y = i .1 in omega arith
+fill-one-requires-2 : tie.Need-fill-one-requires-2
+fill-one-requires-2 c κs = search needs
 
-loop-less : tie.Need-loop-less Inv-loop μ-loop
-loop-less c = omega arith
+fill-same-requires-2 : tie.Need-fill-same-requires-2
+fill-same-requires-2 c κs = search needs
 
-loop-again : tie.Need-loop-again Inv-loop μ-loop
-loop-again c = let i = c .before .before .before .loop .inv in let x = i .0 in let y = i .1 in (omega arith, simp length-set y, λ u a. row-more (omega arith) (omega arith) (omega arith) u a (c .string-at .ensures) (i .2 u a))
+same-length : tie.Need-same-length
+same-length c = search needs
 
-same-length : tie.Need-same-length Inv-loop μ-loop
-same-length c = c .before .loop .inv .1
+returns : tie.Need-returns
+returns c = made-text (now (c .before .before .before .before .before .before .before .before .before .before .before .before .before .args .bytes)) (now (c .before .before .before .before .before .before .before .before .before .before .before .before .before .args .ends)) (now (c .before .before .before .before .before .before .before .before .before .before .before .before .before .args .schema)) (now (c .before .before .before .before .before .before .before .before .before .before .before .before .before .args .alone)) (now (c .before .before .before .before .before .before .before .before .before .before .before .before .before .args .nothing)) (c .before .before .before .before .before .before .before .before .before .before .before .before .before .args .p) (sym (c .before .before .before .before .before .before .before .kind .ensures) ∙ c .before .before .before .before .match .keys1) (c .before .before .fill-same .ensures)
 
-returns : tie.Need-returns Inv-loop μ-loop
-returns c = let i = c .before .loop .inv in let x = i .0 in let y = i .1 in λ u a. subst (λ (n : ℕ). RowFilled (now (c .before .before .before .before .before .before .before .args .bytes)) (now (c .before .before .before .before .before .before .before .args .ends)) (now (c .before .before .before .before .before .before .before .args .schema)) (now (c .before .before .before .before .before .before .before .args .alone)) (c .before .loop .alone) (c .before .before .before .before .before .before .before .args .p) n) (omega arith) (i .2 u a)
+same-length-2 : tie.Need-same-length-2
+same-length-2 c = search needs
+
+returns-2 : tie.Need-returns-2
+returns-2 c = made-data (now (c .before .before .before .before .before .before .before .before .before .before .before .before .before .args .bytes)) (now (c .before .before .before .before .before .before .before .before .before .before .before .before .before .args .ends)) (now (c .before .before .before .before .before .before .before .before .before .before .before .before .before .args .schema)) (now (c .before .before .before .before .before .before .before .before .before .before .before .before .before .args .alone)) (now (c .before .before .before .before .before .before .before .before .before .before .before .before .before .args .nothing)) (c .before .before .before .before .before .before .before .before .before .before .before .before .before .args .p) (c .before .before .before .before .before .before .field-a .ensures) (c .before .before .before .before .before .field-b .ensures) (sym (c .before .before .before .before .before .before .before .kind .ensures) ∙ c .before .before .before .before .match .keys2) (c .before .before .fill-data .ensures)
+
+same-length-3 : tie.Need-same-length-3
+same-length-3 c = search needs
+
+returns-3 : tie.Need-returns-3
+returns-3 c = c .before .before .fill-value .ensures (now (c .before .before .before .before .before .before .before .before .before .before .before .before .before .before .args .nothing)) (sym (c .before .before .before .before .before .before .before .before .kind .ensures) ∙ c .before .before .before .before .before .match .keys3)
+
+same-length-4 : tie.Need-same-length-4
+same-length-4 c = search needs
+
+returns-4 : tie.Need-returns-4
+returns-4 c = made-oneOrMore (now (c .before .before .before .before .before .before .before .before .before .before .before .before .before .args .bytes)) (now (c .before .before .before .before .before .before .before .before .before .before .before .before .before .args .ends)) (now (c .before .before .before .before .before .before .before .before .before .before .before .before .before .args .schema)) (now (c .before .before .before .before .before .before .before .before .before .before .before .before .before .args .alone)) (now (c .before .before .before .before .before .before .before .before .before .before .before .before .before .args .nothing)) (c .before .before .before .before .before .before .before .before .before .before .before .before .before .args .p) (c .before .before .before .before .before .before .field-a .ensures) (c .before .before .before .before .before .field-b .ensures) (sym (c .before .before .before .before .before .before .before .kind .ensures) ∙ c .before .before .before .before .match .keys4) (c .before .before .fill-either .ensures)
+
+same-length-5 : tie.Need-same-length-5
+same-length-5 c = search needs
+
+returns-5 : tie.Need-returns-5
+returns-5 c = made-choice (now (c .before .before .before .before .before .before .before .before .before .before .before .before .before .args .bytes)) (now (c .before .before .before .before .before .before .before .before .before .before .before .before .before .args .ends)) (now (c .before .before .before .before .before .before .before .before .before .before .before .before .before .args .schema)) (now (c .before .before .before .before .before .before .before .before .before .before .before .before .before .args .alone)) (now (c .before .before .before .before .before .before .before .before .before .before .before .before .before .args .nothing)) (c .before .before .before .before .before .before .before .before .before .before .before .before .before .args .p) (c .before .before .before .before .before .before .field-a .ensures) (c .before .before .before .before .before .field-b .ensures) (sym (c .before .before .before .before .before .before .before .kind .ensures) ∙ c .before .before .before .before .match .keys5) (c .before .before .fill-either2 .ensures)
+
+same-length-6 : tie.Need-same-length-6
+same-length-6 c = search needs
+
+returns-6 : tie.Need-returns-6
+returns-6 c = made-group (now (c .before .before .before .before .before .before .before .before .before .before .before .before .before .args .bytes)) (now (c .before .before .before .before .before .before .before .before .before .before .before .before .before .args .ends)) (now (c .before .before .before .before .before .before .before .before .before .before .before .before .before .args .schema)) (now (c .before .before .before .before .before .before .before .before .before .before .before .before .before .args .alone)) (now (c .before .before .before .before .before .before .before .before .before .before .before .before .before .args .nothing)) (c .before .before .before .before .before .before .before .before .before .before .before .before .before .args .p) (c .before .before .before .before .before .before .field-a .ensures) (c .before .before .before .before .before .field-b .ensures) (sym (c .before .before .before .before .before .before .before .kind .ensures) ∙ c .before .before .before .before .match .keys6) (c .before .before .fill-one .ensures)
+
+same-length-7 : tie.Need-same-length-7
+same-length-7 c = search needs
+
+returns-7 : tie.Need-returns-7
+returns-7 c = made-interleave (now (c .before .before .before .before .before .before .before .before .before .before .before .before .before .args .bytes)) (now (c .before .before .before .before .before .before .before .before .before .before .before .before .before .args .ends)) (now (c .before .before .before .before .before .before .before .before .before .before .before .before .before .args .schema)) (now (c .before .before .before .before .before .before .before .before .before .before .before .before .before .args .alone)) (now (c .before .before .before .before .before .before .before .before .before .before .before .before .before .args .nothing)) (c .before .before .before .before .before .before .before .before .before .before .before .before .before .args .p) (c .before .before .before .before .before .before .field-a .ensures) (c .before .before .before .before .before .field-b .ensures) (sym (c .before .before .before .before .before .before .before .kind .ensures) ∙ c .before .before .before .before .match .keys7) (c .before .before .fill-one2 .ensures)
+
+same-length-8 : tie.Need-same-length-8
+same-length-8 c = search needs
+
+returns-8 : tie.Need-returns-8
+returns-8 c = made-rest (now (c .before .before .before .before .before .before .before .before .before .before .before .before .before .args .bytes)) (now (c .before .before .before .before .before .before .before .before .before .before .before .before .before .args .ends)) (now (c .before .before .before .before .before .before .before .before .before .before .before .before .before .args .schema)) (now (c .before .before .before .before .before .before .before .before .before .before .before .before .before .args .alone)) (now (c .before .before .before .before .before .before .before .before .before .before .before .before .before .args .nothing)) (c .before .before .before .before .before .before .before .before .before .before .before .before .before .args .p) (record { no-text = (λ e. c .before .before .before .before .match .rest .0 .0 .0 .0 .0 .0 .1 (c .before .before .before .before .before .before .before .kind .ensures ∙ e)); no-repeat = (λ e. c .before .before .before .before .match .rest .0 .0 .0 .1 (c .before .before .before .before .before .before .before .kind .ensures ∙ e)); no-choice = (λ e. c .before .before .before .before .match .rest .0 .0 .1 (c .before .before .before .before .before .before .before .kind .ensures ∙ e)); no-group = (λ e. c .before .before .before .before .match .rest .0 .1 (c .before .before .before .before .before .before .before .kind .ensures ∙ e)); no-interleave = (λ e. c .before .before .before .before .match .rest .1 (c .before .before .before .before .before .before .before .kind .ensures ∙ e)) }) (λ e. c .before .before .before .before .match .rest .0 .0 .0 .0 .0 .1 (c .before .before .before .before .before .before .before .kind .ensures ∙ e)) (λ e. c .before .before .before .before .match .rest .0 .0 .0 .0 .1 (c .before .before .before .before .before .before .before .kind .ensures ∙ e)) (c .before .before .fill-same2 .ensures)
 
 pub fill-row-spec : {M : Type 1} → statement M
 fill-row-spec =
     tie.close
     (tie.spec
-    Inv-loop
-    μ-loop
-    loop-holds
-    cast-loop
-    string-at-requires
-    mul-alone
-    cast-alone
-    add-alone
-    slice-write-alone
-    add-k
-    loop-less
-    loop-again
+    kind-requires
+    field-a-requires
+    field-b-requires
+    fill-same-requires
+    fill-data-requires
+    fill-value-requires
+    fill-either-requires
+    fill-either-requires-2
+    fill-one-requires
+    fill-one-requires-2
+    fill-same-requires-2
     same-length
-    returns)
+    returns
+    same-length-2
+    returns-2
+    same-length-3
+    returns-3
+    same-length-4
+    returns-4
+    same-length-5
+    returns-5
+    same-length-6
+    returns-6
+    same-length-7
+    returns-7
+    same-length-8
+    returns-8)

@@ -1,13 +1,8 @@
 use denote.Ref.{now}
 use Rattle.contents.proofs.Lists.{AttributesTo, counted-more, counted-last, counted-many}
 use borrow.Author.Needs.{needs}
-use Rattle.marks.specs.Marks.{attributeRow}
-use Rattle.instance.specs.Nodes.{isAttribute}
-use borrow.Author.Count.{below-more}
 use native.Mathlib.Omega.{arith}
-use mathlib.Core.Bool.{true}
-use mathlib.Core.Path.{_≡_}
-use Prim.Native.Nat.{ℕ, _-_, _≤_, _<_}
+use Prim.Native.Nat.{_-_, _≤_}
 use Rattle.contents.proofs.attributes.Statement.{statement}
 use Rattle.contents.proofs.attributes.Tie as tie
 use Rattle.contents.proofs.attributes.Reads as reads

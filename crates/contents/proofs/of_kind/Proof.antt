@@ -5,7 +5,7 @@ use Rattle.marks.proofs.Collecting.{collects-none, collects-more}
 use Rattle.marks.specs.Tests.{Collects}
 use native.Mathlib.Omega.{arith}
 use mathlib.Core.Path.{_≡_}
-use Prim.Native.Nat.{ℕ, _-_, _≤_, _<_}
+use Prim.Native.Nat.{_-_, _≤_}
 use Rattle.contents.proofs.of_kind.Statement.{statement}
 use Rattle.contents.proofs.of_kind.Tie as tie
 use Rattle.contents.proofs.of_kind.Reads as reads

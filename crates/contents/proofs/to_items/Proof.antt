@@ -4,7 +4,7 @@ use Rattle.contents.proofs.Lists.{itemized-none, itemized-more}
 use Rattle.contents.specs.Contents.{itemWord, Itemized}
 use native.Mathlib.Omega.{arith}
 use mathlib.Core.Path.{_≡_, _∙_, ap}
-use Prim.Native.Nat.{ℕ, _-_, _≤_, _<_}
+use Prim.Native.Nat.{_-_, _≤_}
 use Rattle.contents.proofs.to_items.Statement.{statement}
 use Rattle.contents.proofs.to_items.Tie as tie
 use Rattle.contents.proofs.to_items.Reads as reads

@@ -19,13 +19,13 @@ same-length : tie.Need-same-length
 same-length c = search needs
 
 returns : tie.Need-returns
-returns c = no-list (now (c .before .before .before .before .before .before .before .args .table)) (c .before .before .before .before .before .before .before .args .rows) (c .before .before .before .before .before .before .before .args .definitions) (length (now (c .before .before .before .before .before .before .before .args .list))) refl (c .before .before .before .zero-u32 .ensures) (λ h k. absurd (omega arith))
+returns c = no-list (now (c .before .before .before .before .before .before .before .before .args .table)) (now (c .before .before .before .before .before .before .before .before .args .definitions)) (c .before .before .before .before .before .before .before .before .args .rows) (length (now (c .before .before .before .before .before .before .before .before .args .list))) refl (c .before .before .before .zero-u32 .ensures) (λ h k. absurd (omega arith))
 
 same-length-2 : tie.Need-same-length-2
 same-length-2 c = search needs
 
 returns-2 : tie.Need-returns-2
-returns-2 c = no-list (now (c .before .before .before .before .before .before .before .before .args .table)) (c .before .before .before .before .before .before .before .before .args .rows) (c .before .before .before .before .before .before .before .before .args .definitions) (length (now (c .before .before .before .before .before .before .before .before .args .list))) refl (c .before .before .before .before .zero-u32 .ensures) (λ h k. absurd (omega arith))
+returns-2 c = no-list (now (c .before .before .before .before .before .before .before .before .before .args .table)) (now (c .before .before .before .before .before .before .before .before .before .args .definitions)) (c .before .before .before .before .before .before .before .before .before .args .rows) (length (now (c .before .before .before .before .before .before .before .before .before .args .list))) refl (c .before .before .before .before .zero-u32 .ensures) (λ h k. absurd (omega arith))
 
 put-rows-requires : tie.Need-put-rows-requires
 put-rows-requires c κs = search needs
@@ -43,13 +43,13 @@ same-length-3 : tie.Need-same-length-3
 same-length-3 c = search needs
 
 returns-3 : tie.Need-returns-3
-returns-3 c = let l = put-length (c .before .before .before .before .before .before .before .put-rows .ensures) ∙ ap length (c .before .before .before .before .before .before .before .before .before .before .before .before .before .zero-u32 .ensures) ∙ length-replicate {A = ℕ} (length (now (c .before .before .before .before .before .before .before .before .before .before .before .before .before .before .before .before .before .args .list))) 0 in no-list (now (c .before .before .before .before .before .before .before .before .before .before .before .before .before .before .before .before .before .args .table)) (c .before .before .before .before .before .before .before .before .before .before .before .before .before .before .before .before .before .args .rows) (c .before .before .before .before .before .before .before .before .before .before .before .before .before .before .before .before .before .args .definitions) (length (now (c .before .before .before .before .before .before .before .before .before .before .before .before .before .before .before .before .before .args .list))) refl (c .before .before .zero-u322 .ensures ∙ ap zeros l) (λ h k. let m = c .before .before .before .before .before .before .before .put-rows .ensures .number in omega arith)
+returns-3 c = let l = put-length (c .before .before .before .before .before .before .before .put-rows .ensures) ∙ ap length (c .before .before .before .before .before .before .before .before .before .before .before .before .before .zero-u32 .ensures) ∙ length-replicate {A = ℕ} (length (now (c .before .before .before .before .before .before .before .before .before .before .before .before .before .before .before .before .before .before .args .list))) 0 in no-list (now (c .before .before .before .before .before .before .before .before .before .before .before .before .before .before .before .before .before .before .args .table)) (now (c .before .before .before .before .before .before .before .before .before .before .before .before .before .before .before .before .before .before .args .definitions)) (c .before .before .before .before .before .before .before .before .before .before .before .before .before .before .before .before .before .before .args .rows) (length (now (c .before .before .before .before .before .before .before .before .before .before .before .before .before .before .before .before .before .before .args .list))) refl (c .before .before .zero-u322 .ensures ∙ ap zeros l) (λ h k. let m = c .before .before .before .before .before .before .before .put-rows .ensures .number in omega arith)
 
 same-length-4 : tie.Need-same-length-4
 same-length-4 c = search needs
 
 returns-4 : tie.Need-returns-4
-returns-4 c = let l = put-length (c .before .before .before .put-rows .ensures) ∙ ap length (c .before .before .before .before .before .before .before .before .before .zero-u32 .ensures) ∙ length-replicate {A = ℕ} (length (now (c .before .before .before .before .before .before .before .before .before .before .before .before .before .args .list))) 0 in whole-list (now (c .before .before .before .before .before .before .before .before .before .before .before .before .before .args .table)) (c .before .before .before .before .before .before .before .before .before .before .before .before .before .args .rows) (c .before .before .before .before .before .before .before .before .before .before .before .before .before .args .definitions) (length (now (c .before .before .before .before .before .before .before .before .before .before .before .before .before .args .list))) (omega arith) (subst (λ (o : List ℕ). PutPairs o 0 (markedPairs (now (c .before .before .before .before .before .before .before .before .before .before .before .before .before .args .table)) (c .before .before .before .before .before .before .before .before .before .before .before .before .before .args .definitions) (c .before .before .before .before .before .before .before .before .before .before .before .before .before .args .rows)) (c .before .before .before .put-rows .last .1 .1 .1 .0) (c .before .before .before .put-rows .result)) (c .before .before .before .before .before .before .before .before .before .zero-u32 .ensures) (c .before .before .before .put-rows .ensures))
+returns-4 c = let l = put-length (c .before .before .before .put-rows .ensures) ∙ ap length (c .before .before .before .before .before .before .before .before .before .zero-u32 .ensures) ∙ length-replicate {A = ℕ} (length (now (c .before .before .before .before .before .before .before .before .before .before .before .before .before .before .args .list))) 0 in whole-list (now (c .before .before .before .before .before .before .before .before .before .before .before .before .before .before .args .table)) (now (c .before .before .before .before .before .before .before .before .before .before .before .before .before .before .args .definitions)) (c .before .before .before .before .before .before .before .before .before .before .before .before .before .before .args .rows) (length (now (c .before .before .before .before .before .before .before .before .before .before .before .before .before .before .args .list))) (omega arith) (subst (λ (o : List ℕ). PutPairs o 0 (markedPairs (now (c .before .before .before .before .before .before .before .before .before .before .before .before .before .before .args .table)) (now (c .before .before .before .before .before .before .before .before .before .before .before .before .before .before .args .definitions)) (c .before .before .before .before .before .before .before .before .before .before .before .before .before .before .args .rows)) (c .before .before .before .put-rows .last .1 .1 .1 .0) (c .before .before .before .put-rows .result)) (c .before .before .before .before .before .before .before .before .before .zero-u32 .ensures) (c .before .before .before .put-rows .ensures))
 
 pub list-pairs-spec : {M : Type 1} → statement M
 list-pairs-spec =

@@ -8,9 +8,9 @@ use borrow.Fn.PlainCycle.{Measures, is, falls, and}
 use Rattle.schema.proofs.field_a.Reads as field-a-reads
 use Rattle.schema.proofs.field_b.Reads as field-b-reads
 use Rattle.schema.proofs.kind.Reads as kind-reads
-use Rattle.sets.proofs.compose.Reads as compose-reads
-use Rattle.sets.proofs.meet.Reads as meet-reads
-use Rattle.sets.proofs.union.Reads as union-reads
+use Rattle.relations.proofs.compose.Reads as compose-reads
+use Rattle.relations.proofs.meet.Reads as meet-reads
+use Rattle.relations.proofs.union.Reads as union-reads
 use Rattle.sets.proofs.word.Reads as word-reads
 use Rattle.matching.proofs.Answering.{answers-oneOrMore, answers-no-operand, answers-choice, answers-group, answers-interleave, operands-related, no-operands, not-connective}
 use Rattle.matching.proofs.choice.Reads as choice
@@ -37,22 +37,22 @@ use Rattle.matching.proofs.+choice+group+interleave+one_or_more+operand
 use Rattle.matching.proofs.+choice+group+interleave+one_or_more+operands+relate.Tie.{close}
 
 abbrev μ-choice : Measures 6 choice-kinds.ps ℕ
-μ-choice κs a = 3 * a .1 .1 .1 .1 .1 .1 .1 .0 + 1
+μ-choice κs a = 3 * a .1 .1 .1 .1 .1 .1 .1 .1 .0 + 1
 
 abbrev μ-group : Measures 6 group-kinds.ps ℕ
-μ-group κs a = 3 * a .1 .1 .1 .1 .1 .1 .1 .0 + 1
+μ-group κs a = 3 * a .1 .1 .1 .1 .1 .1 .1 .1 .0 + 1
 
 abbrev μ-interleave : Measures 6 interleave-kinds.ps ℕ
-μ-interleave κs a = 3 * a .1 .1 .1 .1 .1 .1 .1 .0 + 1
+μ-interleave κs a = 3 * a .1 .1 .1 .1 .1 .1 .1 .1 .0 + 1
 
 abbrev μ-one-or-more : Measures 6 one-or-more-kinds.ps ℕ
-μ-one-or-more κs a = 3 * a .1 .1 .1 .1 .1 .1 .1 .0 + 1
+μ-one-or-more κs a = 3 * a .1 .1 .1 .1 .1 .1 .1 .1 .0 + 1
 
 abbrev μ-operands : Measures 6 operands-kinds.ps ℕ
-μ-operands κs a = 3 * a .1 .1 .1 .1 .1 .0
+μ-operands κs a = 3 * a .1 .1 .1 .1 .1 .1 .0
 
 abbrev μ-relate : Measures 6 relate-kinds.ps ℕ
-μ-relate κs a = 3 * a .1 .1 .1 .1 .1 .1 .1 .0 + 2
+μ-relate κs a = 3 * a .1 .1 .1 .1 .1 .1 .1 .1 .0 + 2
 
 module _ (t : ℕ) where
   abbrev choice-at : In 6 choice-kinds.ps
@@ -110,7 +110,7 @@ module _ (t : ℕ) where
   relate-calls = (kind-reads.Asked, kind-reads.Learnt, one-or-more-below, one-or-more.Post, choice-below, choice.Post, group-below, group.Post, interleave-below, interleave.Post, leaf-reads.Asked, leaf-reads.Learnt)
 
   choice-operands-requires : choice-lts.Need-operands-requires choice-calls choice-at choice.Post
-  choice-operands-requires c κs = (omega arith, omega arith)
+  choice-operands-requires c κs = (omega arith, (omega arith, omega arith))
 
   choice-union-requires : choice-lts.Need-union-requires choice-calls choice-at choice.Post
   choice-union-requires c κs = tt
@@ -119,7 +119,7 @@ module _ (t : ℕ) where
   choice-same-length c = omega arith
 
   choice-returns : choice-lts.Need-returns choice-calls choice-at choice.Post
-  choice-returns c = answers-choice _ _ (c .before .before .before .before .before .before .before .before .before .before .before .before .before .before .pre .1 .1) (omega arith) (c .before .before .before .before .before .before .operands .ensures) (c .before .before .union .ensures)
+  choice-returns c = answers-choice _ _ (c .before .before .before .before .before .before .before .before .before .before .before .before .before .before .pre .1 .2) (omega arith) (omega arith) (c .before .before .before .before .before .before .operands .ensures) (c .before .before .union .ensures)
 
   group-field-a-requires : group-lts.Need-field-a-requires group-calls group-at group.Post
   group-field-a-requires c κs = tt
@@ -128,7 +128,7 @@ module _ (t : ℕ) where
   group-word-requires c κs = tt
 
   group-operands-requires : group-lts.Need-operands-requires group-calls group-at group.Post
-  group-operands-requires c κs = (omega arith, omega arith)
+  group-operands-requires c κs = (omega arith, (omega arith, omega arith))
 
   group-compose-requires : group-lts.Need-compose-requires group-calls group-at group.Post
   group-compose-requires c κs = tt
@@ -137,7 +137,7 @@ module _ (t : ℕ) where
   group-same-length c = omega arith
 
   group-returns : group-lts.Need-returns group-calls group-at group.Post
-  group-returns c = answers-group _ _ (c .before .before .before .before .before .before .before .before .before .before .before .before .before .before .before .before .fits .a .fits) (c .before .before .before .before .before .before .before .before .word .ok) (c .before .before .before .before .before .before .before .before .before .field-a .ensures) (c .before .before .before .before .before .before .before .before .word .ensures) (c .before .before .before .before .before .before .before .before .before .before .before .before .before .before .before .before .pre .1 .1) (omega arith) (c .before .before .before .before .before .before .operands .ensures) (c .before .before .compose .ensures)
+  group-returns c = answers-group _ _ (c .before .before .before .before .before .before .before .before .before .before .before .before .before .before .before .before .fits .a .fits) (c .before .before .before .before .before .before .before .before .word .ok) (c .before .before .before .before .before .before .before .before .before .field-a .ensures) (c .before .before .before .before .before .before .before .before .word .ensures) (c .before .before .before .before .before .before .before .before .before .before .before .before .before .before .before .before .pre .1 .2) (omega arith) (omega arith) (c .before .before .before .before .before .before .operands .ensures) (c .before .before .compose .ensures)
 
   interleave-field-a-requires : interleave-lts.Need-field-a-requires interleave-calls interleave-at interleave.Post
   interleave-field-a-requires c κs = tt
@@ -149,7 +149,7 @@ module _ (t : ℕ) where
   interleave-word-requires-2 c κs = tt
 
   interleave-operands-requires : interleave-lts.Need-operands-requires interleave-calls interleave-at interleave.Post
-  interleave-operands-requires c κs = (omega arith, omega arith)
+  interleave-operands-requires c κs = (omega arith, (omega arith, omega arith))
 
   interleave-meet-requires : interleave-lts.Need-meet-requires interleave-calls interleave-at interleave.Post
   interleave-meet-requires c κs = tt
@@ -158,7 +158,7 @@ module _ (t : ℕ) where
   interleave-same-length c = omega arith
 
   interleave-returns : interleave-lts.Need-returns interleave-calls interleave-at interleave.Post
-  interleave-returns c = answers-interleave _ _ (c .before .before .before .before .before .before .before .before .before .before .before .before .before .before .before .before .before .fits .a .fits) (c .before .before .before .before .before .before .before .before .before .word .ok) (c .before .before .before .before .before .before .before .before .before .before .field-a .ensures) (c .before .before .before .before .before .before .before .before .before .word .ensures) (c .before .before .before .before .before .before .before .before .before .before .before .before .before .before .before .before .before .fits .k .fits) (c .before .before .before .before .before .before .before .before .word2 .ok) (c .before .before .before .before .before .before .before .before .word2 .ensures) (c .before .before .before .before .before .before .before .before .before .before .before .before .before .before .before .before .before .pre .1 .1) (omega arith) (c .before .before .before .before .before .before .operands .ensures) (c .before .before .meet .ensures)
+  interleave-returns c = answers-interleave _ _ (c .before .before .before .before .before .before .before .before .before .before .before .before .before .before .before .before .before .fits .a .fits) (c .before .before .before .before .before .before .before .before .before .word .ok) (c .before .before .before .before .before .before .before .before .before .before .field-a .ensures) (c .before .before .before .before .before .before .before .before .before .word .ensures) (c .before .before .before .before .before .before .before .before .before .before .before .before .before .before .before .before .before .fits .k .fits) (c .before .before .before .before .before .before .before .before .word2 .ok) (c .before .before .before .before .before .before .before .before .word2 .ensures) (c .before .before .before .before .before .before .before .before .before .before .before .before .before .before .before .before .before .pre .1 .2) (omega arith) (omega arith) (c .before .before .before .before .before .before .operands .ensures) (c .before .before .meet .ensures)
 
   one-or-more-field-a-requires : one-or-more-lts.Need-field-a-requires one-or-more-calls one-or-more-at one-or-more.Post
   one-or-more-field-a-requires c κs = tt
@@ -170,16 +170,16 @@ module _ (t : ℕ) where
   one-or-more-word-requires c κs = tt
 
   one-or-more-repeated-requires : one-or-more-lts.Need-repeated-requires one-or-more-calls one-or-more-at one-or-more.Post
-  one-or-more-repeated-requires c κs = omega arith
+  one-or-more-repeated-requires c κs = (omega arith, omega arith)
 
   one-or-more-same-length : one-or-more-lts.Need-same-length one-or-more-calls one-or-more-at one-or-more.Post
   one-or-more-same-length c = omega arith
 
   one-or-more-returns : one-or-more-lts.Need-returns one-or-more-calls one-or-more-at one-or-more.Post
-  one-or-more-returns c = answers-oneOrMore _ _ (c .before .before .before .before .before .before .before .before .before .before .before .before .before .before .before .before .before .fits .a .fits) (c .before .before .before .before .before .before .before .before .before .before .before .before .before .before .before .before .before .pre .1 .1) (c .before .before .before .before .before .before .before .before .before .before .field-a .ensures) (c .before .before .before .before .word .ensures) (c .before .before .before .before .before .before .before .relate .ensures (omega arith)) (c .before .before .repeated .ensures)
+  one-or-more-returns c = answers-oneOrMore _ _ (c .before .before .before .before .before .before .before .before .before .before .before .before .before .before .before .before .before .fits .a .fits) (c .before .before .before .before .before .before .before .before .before .before .before .before .before .before .before .before .before .pre .1 .2) (c .before .before .before .before .before .before .before .before .before .before .field-a .ensures) (c .before .before .before .before .word .ensures) (c .before .before .before .before .before .before .before .relate .ensures (omega arith) (omega arith)) (c .before .before .repeated .ensures)
 
   one-or-more-returns-2 : one-or-more-lts.Need-returns-2 one-or-more-calls one-or-more-at one-or-more.Post
-  one-or-more-returns-2 c = answers-no-operand _ _ (c .before .before .before .before .before .before .before .before .pre .1 .1) (c .before .field-a .ensures) (λ l. omega arith)
+  one-or-more-returns-2 c = answers-no-operand _ _ (c .before .before .before .before .before .before .before .before .pre .1 .2) (c .before .field-a .ensures) (λ l. omega arith)
 
   operands-field-a-requires : operands-lts.Need-field-a-requires operands-calls operands-at operands.Post
   operands-field-a-requires c κs = tt
@@ -207,8 +207,8 @@ module _ (t : ℕ) where
 
   operands-returns : operands-lts.Need-returns operands-calls operands-at operands.Post
   operands-returns c =
-      let v = c .before .before .before .before .before .before .relate .last .1 .1 .1 .1 .1 .1 .1 .1 .0 in
-      operands-related _ _ (length v - 64) v (c .before .before .relate2 .last .1 .1 .1 .1 .1 .1 .1 .1 .0) (omega arith) (omega arith) (c .before .before .before .before .before .before .before .before .before .before .before .field-a .ensures) (c .before .before .before .before .before .before .before .before .before .before .field-b .ensures) (c .before .before .before .before .before .before .relate .ensures (omega arith)) (c .before .before .relate2 .ensures (omega arith))
+      let v = c .before .before .before .before .before .before .relate .last .1 .1 .1 .1 .1 .1 .1 .1 .1 .0 in
+      operands-related _ _ (omega arith) (length v - 64) v (c .before .before .relate2 .last .1 .1 .1 .1 .1 .1 .1 .1 .1 .0) (omega arith) (omega arith) (c .before .before .before .before .before .before .before .before .before .before .before .field-a .ensures) (c .before .before .before .before .before .before .before .before .before .before .field-b .ensures) (c .before .before .before .before .before .before .relate .ensures (omega arith) (omega arith)) (c .before .before .relate2 .ensures (omega arith) (omega arith))
 
   operands-returns-2 : operands-lts.Need-returns-2 operands-calls operands-at operands.Post
   operands-returns-2 c = no-operands _ _ (c .before .before .before .field-a .ensures) (c .before .before .field-b .ensures) (λ l₁ l₂. omega arith)
@@ -216,29 +216,32 @@ module _ (t : ℕ) where
   operands-returns-3 : operands-lts.Need-returns-3 operands-calls operands-at operands.Post
   operands-returns-3 c = no-operands _ _ (c .before .before .field-a .ensures) (c .before .field-b .ensures) (λ l₁ l₂. omega arith)
 
-  relate-add-if1 : relate-lts.Need-add-if1 relate-calls relate-at relate.Post
-  relate-add-if1 c = omega arith
-
-  relate-mul-if1 : relate-lts.Need-mul-if1 relate-calls relate-at relate.Post
-  relate-mul-if1 c = omega arith
-
   relate-returns : relate-lts.Need-returns relate-calls relate-at relate.Post
-  relate-returns c l = absurd (omega arith)
+  relate-returns c f l = absurd (omega arith)
+
+  relate-add-if2 : relate-lts.Need-add-if2 relate-calls relate-at relate.Post
+  relate-add-if2 c = omega arith
+
+  relate-mul-if2 : relate-lts.Need-mul-if2 relate-calls relate-at relate.Post
+  relate-mul-if2 c = omega arith
+
+  relate-returns-2 : relate-lts.Need-returns-2 relate-calls relate-at relate.Post
+  relate-returns-2 c f l = absurd (omega arith)
 
   relate-kind-requires : relate-lts.Need-kind-requires relate-calls relate-at relate.Post
   relate-kind-requires c κs = tt
 
   relate-one-or-more-requires : relate-lts.Need-one-or-more-requires relate-calls relate-at relate.Post
-  relate-one-or-more-requires c κs = (omega arith, (omega arith, sym (c .before .before .kind .ensures) ∙ c .before .match .keys1))
+  relate-one-or-more-requires c κs = (omega arith, (omega arith, omega arith, sym (c .before .before .kind .ensures) ∙ c .before .match .keys1))
 
   relate-choice-requires : relate-lts.Need-choice-requires relate-calls relate-at relate.Post
-  relate-choice-requires c κs = (omega arith, (omega arith, sym (c .before .before .kind .ensures) ∙ c .before .match .keys2))
+  relate-choice-requires c κs = (omega arith, (omega arith, omega arith, sym (c .before .before .kind .ensures) ∙ c .before .match .keys2))
 
   relate-group-requires : relate-lts.Need-group-requires relate-calls relate-at relate.Post
-  relate-group-requires c κs = (omega arith, (omega arith, sym (c .before .before .kind .ensures) ∙ c .before .match .keys3))
+  relate-group-requires c κs = (omega arith, (omega arith, omega arith, sym (c .before .before .kind .ensures) ∙ c .before .match .keys3))
 
   relate-interleave-requires : relate-lts.Need-interleave-requires relate-calls relate-at relate.Post
-  relate-interleave-requires c κs = (omega arith, (omega arith, sym (c .before .before .kind .ensures) ∙ c .before .match .keys4))
+  relate-interleave-requires c κs = (omega arith, (omega arith, omega arith, sym (c .before .before .kind .ensures) ∙ c .before .match .keys4))
 
   relate-leaf-requires : relate-lts.Need-leaf-requires relate-calls relate-at relate.Post
   relate-leaf-requires c κs = tt
@@ -246,32 +249,32 @@ module _ (t : ℕ) where
   relate-same-length : relate-lts.Need-same-length relate-calls relate-at relate.Post
   relate-same-length c = omega arith
 
-  relate-returns-2 : relate-lts.Need-returns-2 relate-calls relate-at relate.Post
-  relate-returns-2 c l = c .before .before .one-or-more .ensures
+  relate-returns-3 : relate-lts.Need-returns-3 relate-calls relate-at relate.Post
+  relate-returns-3 c f l = c .before .before .one-or-more .ensures
 
   relate-same-length-2 : relate-lts.Need-same-length-2 relate-calls relate-at relate.Post
   relate-same-length-2 c = omega arith
 
-  relate-returns-3 : relate-lts.Need-returns-3 relate-calls relate-at relate.Post
-  relate-returns-3 c l = c .before .before .choice .ensures
+  relate-returns-4 : relate-lts.Need-returns-4 relate-calls relate-at relate.Post
+  relate-returns-4 c f l = c .before .before .choice .ensures
 
   relate-same-length-3 : relate-lts.Need-same-length-3 relate-calls relate-at relate.Post
   relate-same-length-3 c = omega arith
 
-  relate-returns-4 : relate-lts.Need-returns-4 relate-calls relate-at relate.Post
-  relate-returns-4 c l = c .before .before .group .ensures
+  relate-returns-5 : relate-lts.Need-returns-5 relate-calls relate-at relate.Post
+  relate-returns-5 c f l = c .before .before .group .ensures
 
   relate-same-length-4 : relate-lts.Need-same-length-4 relate-calls relate-at relate.Post
   relate-same-length-4 c = omega arith
 
-  relate-returns-5 : relate-lts.Need-returns-5 relate-calls relate-at relate.Post
-  relate-returns-5 c l = c .before .before .interleave .ensures
+  relate-returns-6 : relate-lts.Need-returns-6 relate-calls relate-at relate.Post
+  relate-returns-6 c f l = c .before .before .interleave .ensures
 
   relate-same-length-5 : relate-lts.Need-same-length-5 relate-calls relate-at relate.Post
   relate-same-length-5 c = omega arith
 
-  relate-returns-6 : relate-lts.Need-returns-6 relate-calls relate-at relate.Post
-  relate-returns-6 c l = let rest = c .before .before .before .before .match .rest in c .before .before .leaf .ensures (omega arith) (not-connective (c .before .before .before .before .before .kind .ensures) (rest .0 .0 .0 .1) (rest .0 .0 .1) (rest .0 .1) (rest .1)) _ _ _
+  relate-returns-7 : relate-lts.Need-returns-7 relate-calls relate-at relate.Post
+  relate-returns-7 c f l = let rest = c .before .before .before .before .match .rest in c .before .before .leaf .ensures (omega arith) (omega arith) (not-connective (c .before .before .before .before .before .kind .ensures) (rest .0 .0 .0 .1) (rest .0 .0 .1) (rest .0 .1) (rest .1)) _ _ _
 
 pub +choice+group+interleave+one-or-more+operands+relate-spec : {M : Type 1} → statement M
 +choice+group+interleave+one-or-more+operands+relate-spec =
@@ -293,4 +296,4 @@ pub +choice+group+interleave+one-or-more+operands+relate-spec : {M : Type 1} →
     (λ t. operands-lts.spec (operands-calls t) (operands-at t) operands.Post
     (operands-field-a-requires t) (operands-field-b-requires t) (operands-relate-requires t) (operands-sub-relate t) (operands-part-relate-start t) (operands-part-relate-end t) (operands-relate-requires-2 t) (operands-same-length t) (operands-returns t) (operands-returns-2 t) (operands-returns-3 t))
     (λ t. relate-lts.spec (relate-calls t) (relate-at t) relate.Post
-    (relate-add-if1 t) (relate-mul-if1 t) (relate-returns t) (relate-kind-requires t) (relate-one-or-more-requires t) (relate-choice-requires t) (relate-group-requires t) (relate-interleave-requires t) (relate-leaf-requires t) (relate-same-length t) (relate-returns-2 t) (relate-same-length-2 t) (relate-returns-3 t) (relate-same-length-3 t) (relate-returns-4 t) (relate-same-length-4 t) (relate-returns-5 t) (relate-same-length-5 t) (relate-returns-6 t))
+    (relate-returns t) (relate-add-if2 t) (relate-mul-if2 t) (relate-returns-2 t) (relate-kind-requires t) (relate-one-or-more-requires t) (relate-choice-requires t) (relate-group-requires t) (relate-interleave-requires t) (relate-leaf-requires t) (relate-same-length t) (relate-returns-3 t) (relate-same-length-2 t) (relate-returns-4 t) (relate-same-length-3 t) (relate-returns-5 t) (relate-same-length-4 t) (relate-returns-6 t) (relate-same-length-5 t) (relate-returns-7 t))

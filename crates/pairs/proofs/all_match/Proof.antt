@@ -1,36 +1,36 @@
-use Rattle.pairs.proofs.Fitting.{word-tells}
-use Rattle.matching.specs.Setting.{Related}
-use Rattle.schema.proofs.RowLaws.{few-rows, right-size}
+-- The pair 0, n of the relation is position n of its first word.
 use native.Mathlib.Omega.{arith}
+use Rattle.schema.proofs.RowLaws.{few-rows, right-size}
+use Rattle.matching.specs.Setting.{Related}
+use Rattle.pairs.proofs.Fitting.{word-tells}
 use borrow.Author.Needs.{needs}
 use Rattle.pairs.proofs.all_match.Statement.{statement}
 use Rattle.pairs.proofs.all_match.Tie as tie
-use Rattle.pairs.proofs.all_match.Reads as reads
-use Rattle.pairs.proofs.all_match.Lts as lts
-use Rattle.matching.proofs.relate.Reads as relate-reads
-use Rattle.sets.proofs.has.Reads as has-reads
-use Rattle.sets.proofs.word.Reads as word-reads
 
--- src/lib.rt:27:5
+add-relate : tie.Need-add-relate
+add-relate c = search needs
+
 relate-requires : tie.Need-relate-requires
 relate-requires c κs = search needs
 
--- src/lib.rt:28:15
 word-requires : tie.Need-word-requires
 word-requires c κs = search needs
 
--- src/lib.rt:28:5
 has-requires : tie.Need-has-requires
 has-requires c κs = search needs
 
--- src/lib.rt:13:1
 same-length : tie.Need-same-length
 same-length c = search needs
 
--- src/lib.rt:13:1
 returns : tie.Need-returns
-returns c = λ S q h. word-tells (c .before .before .before .before .before .relate .last .1 .1 .1 .1 .1 .1 .1 .1 .0) (Related S (c .before .before .before .before .before .before .before .before .before .before .before .before .before .args .a) (c .before .before .before .before .before .before .before .before .before .before .before .before .before .args .k) (c .before .before .before .before .before .before .before .before .before .before .before .before .before .args .p)) (let r = few-rows (right-size (S .passes .rows)) in let w = c .before .before .before .before .before .before .before .before .before .before .before .before .before .pre in c .before .before .before .before .before .relate .ensures (omega arith) S q h) (c .before .word .ensures) (c .has .ensures)
+returns c = λ S q h.
+    let s = c .before .before .before .before .before .before .before .before .before .before .before .before .before in
+    let x = s .args in
+    let room = s .pre .0 in
+    let few = s .pre .1 in
+    let rows = few-rows (right-size (S .passes .rows)) in
+    word-tells (x .n) (c .before .before .before .before .before .relate .last .1 .1 .1 .1 .1 .1 .1 .1 .1 .0) (Related S _ (x .a) (x .k) (x .p)) (c .before .before .before .before .before .relate .ensures (omega arith) (omega arith) S q h) (c .before .word .ensures) (c .has .ensures)
 
 pub all-match-spec : {M : Type 1} → statement M
 all-match-spec =
-    tie.close (tie.spec relate-requires word-requires has-requires same-length returns)
+    tie.close (tie.spec add-relate relate-requires word-requires has-requires same-length returns)

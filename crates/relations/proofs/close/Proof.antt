@@ -1,0 +1,82 @@
+-- The invariant: the words from i on hold the closure, and the others are as they were.
+use native.Mathlib.Omega.{arith}
+use borrow.Author.Needs.{needs}
+use mathlib.Core.Path.{refl, sym}
+use lib.Seq.{length-take-le}
+use Rattle.relations.proofs.Closure.{plus-low, Closing, close-none, close-more}
+use Rattle.relations.proofs.Words.{written}
+use Rattle.relations.proofs.close.Statement.{statement}
+use Rattle.relations.proofs.close.Tie as tie
+
+abbrev Inv-loop : tie.InvT-loop
+Inv-loop m w₀ end i₀ w i = Closing m w₀ w i
+
+abbrev μ-loop : tie.MeasureT-loop
+μ-loop m w₀ end i₀ w i = i
+
+returns : tie.Need-returns Inv-loop μ-loop
+returns c f l = absurd (omega arith)
+
+returns-2 : tie.Need-returns-2 Inv-loop μ-loop
+returns-2 c f l = absurd (omega arith)
+
+loop-holds : tie.Need-loop-holds Inv-loop μ-loop
+loop-holds c = close-none (omega arith) (omega arith)
+
+sub-i : tie.Need-sub-i Inv-loop μ-loop
+sub-i c = omega arith
+
+mul-s : tie.Need-mul-s Inv-loop μ-loop
+mul-s c = omega arith
+
+slice-read-s : tie.Need-slice-read-s Inv-loop μ-loop
+slice-read-s c = omega arith
+
+slice-reshare-prefix-image : tie.Need-slice-reshare-prefix-image Inv-loop μ-loop
+slice-reshare-prefix-image c = omega arith
+
+slice-aggregate-image : tie.Need-slice-aggregate-image Inv-loop μ-loop
+slice-aggregate-image c = sym (length-take-le _ (c .before .before .before .loop .w) (omega arith))
+
+image-requires : tie.Need-image-requires Inv-loop μ-loop
+image-requires c κs = search needs
+
+mul-w : tie.Need-mul-w Inv-loop μ-loop
+mul-w c = omega arith
+
+slice-write-w : tie.Need-slice-write-w Inv-loop μ-loop
+slice-write-w c = omega arith
+
+loop-less : tie.Need-loop-less Inv-loop μ-loop
+loop-less c = omega arith
+
+loop-again : tie.Need-loop-again Inv-loop μ-loop
+loop-again c = close-more (c .before .before .before .before .loop .inv) (omega arith) refl (c .image .ensures)
+
+same-length : tie.Need-same-length Inv-loop μ-loop
+same-length c = c .before .loop .inv .size
+
+returns-3 : tie.Need-returns-3 Inv-loop μ-loop
+returns-3 c f l up = written (c .before .loop .inv .closed up) (c .loop-test .left) (plus-low _ (c .before .before .before .before .before .args .w .now))
+
+pub close-spec : {M : Type 1} → statement M
+close-spec =
+    tie.close
+    (tie.spec
+    Inv-loop
+    μ-loop
+    returns
+    returns-2
+    loop-holds
+    sub-i
+    mul-s
+    slice-read-s
+    slice-reshare-prefix-image
+    slice-aggregate-image
+    image-requires
+    mul-w
+    slice-write-w
+    loop-less
+    loop-again
+    same-length
+    returns-3)

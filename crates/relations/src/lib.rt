@@ -1,0 +1,176 @@
+// Relations on m positions as m words; a second relation starts at word 64. Where m is above 64 or the words are too few, a function writes nothing.
+ghost use mathlib.Core.Path.{_≡_};
+ghost use mathlib.Core.Bool.{cond};
+ghost use Prim.Native.Nat.{_+_, _^_, _<_, _≤_};
+ghost use lib.Bits.{bitOr};
+ghost use lib.ListN.{length};
+ghost use Rattle.sets.specs.Bits.{bit};
+ghost use Rattle.relations.specs.Relations.{Or, And, Then, Plus};
+ghost use Rattle.relations.specs.Words.{Holds, Is, Image, front, next, Up, Empty, Gap, Single};
+
+// The union of the words of b at the members of s.
+pub fn image(s: u64, b: &[u64]) -> u64
+    ensures { λ r. ⌜ Image s (now (b .entry)) r ⌝ }
+{
+    let mut out: u64 = 0;
+    let mut rest = s;
+    while rest != 0 {
+        out |= sets::word(b, u64::trailing_zeros(rest));
+        rest &= rest - 1;
+    }
+    out
+}
+
+// The empty relation.
+pub fn clear(m: u32, w: &mut [u64])
+    ensures { λ _. ⌜ (m ≤ 64 → m ≤ length (now (w .entry)) → Is (front m (now (w .exit))) Empty) ⌝ }
+{
+    if m > 64 {
+        return;
+    }
+    let mut i = m as usize;
+    if w.len() < i {
+        return;
+    }
+    while i > 0 {
+        i -= 1;
+        w[i] = 0;
+    }
+}
+
+// The gaps that start at i, from those that start at i + 1.
+fn gap_word(stop: u64, i: u32, after: u64) -> u64
+    requires { ⌜ i < 64 ⌝ }
+    ensures { λ r. ⌜ r ≡ cond (bit stop i) (2 ^ i) (bitOr after (2 ^ i)) ⌝ }
+{
+    if sets::has(stop, i) {
+        return 1u64 << i;
+    }
+    after | 1u64 << i
+}
+
+// The pairs i, j with no position of stop in [i, j).
+pub fn gaps(m: u32, stop: u64, w: &mut [u64])
+    ensures { λ _. ⌜ (m ≤ 64 → m ≤ length (now (w .entry)) → Is (front m (now (w .exit))) (Gap m stop)) ⌝ }
+{
+    if m > 64 {
+        return;
+    }
+    if w.len() < m as usize {
+        return;
+    }
+    let mut gap: u64 = 0;
+    let mut i = m;
+    while i > 0 {
+        i -= 1;
+        gap = gap_word(stop, i, gap);
+        w[i as usize] = gap;
+    }
+}
+
+// The singles that start at i, from the gaps and the singles that start at i + 1.
+fn single_word(all: u64, marked: u64, i: u32, gap: u64, single: u64) -> u64
+    ensures { λ r. ⌜ r ≡ cond (bit all i) (cond (bit marked i) gap 0) single ⌝ }
+{
+    if sets::has(all, i) {
+        if sets::has(marked, i) {
+            return gap;
+        }
+        return 0;
+    }
+    single
+}
+
+// The pairs i, j with exactly one position of all in [i, j), a marked one.
+pub fn singles(m: u32, all: u64, marked: u64, w: &mut [u64])
+    ensures { λ _. ⌜ (m ≤ 64 → m ≤ length (now (w .entry)) → Is (front m (now (w .exit))) (Single m all marked)) ⌝ }
+{
+    if m > 64 {
+        return;
+    }
+    if w.len() < m as usize {
+        return;
+    }
+    let mut gap: u64 = 0;
+    let mut single: u64 = 0;
+    let mut i = m;
+    while i > 0 {
+        i -= 1;
+        single = single_word(all, marked, i, gap, single);
+        gap = gap_word(all, i, gap);
+        w[i as usize] = single;
+    }
+}
+
+// The first relation or the next.
+pub fn union(m: u32, w: &mut [u64])
+    ensures { λ _. ⌜ (m ≤ 64 → 64 + m ≤ length (now (w .entry)) → Is (front m (now (w .exit))) (Or (Holds (front m (now (w .entry)))) (Holds (next m (now (w .entry)))))) ⌝ }
+{
+    if m > 64 {
+        return;
+    }
+    let mut i = m as usize;
+    if w.len() < 64 + i {
+        return;
+    }
+    while i > 0 {
+        i -= 1;
+        w[i] = w[i] | w[64 + i];
+    }
+}
+
+// The first relation and the next, of the same pairs.
+pub fn meet(m: u32, w: &mut [u64])
+    ensures { λ _. ⌜ (m ≤ 64 → 64 + m ≤ length (now (w .entry)) → Is (front m (now (w .exit))) (And (Holds (front m (now (w .entry)))) (Holds (next m (now (w .entry)))))) ⌝ }
+{
+    if m > 64 {
+        return;
+    }
+    let mut i = m as usize;
+    if w.len() < 64 + i {
+        return;
+    }
+    while i > 0 {
+        i -= 1;
+        w[i] = w[i] & w[64 + i];
+    }
+}
+
+// The first relation, then the next.
+pub fn compose(m: u32, w: &mut [u64])
+    ensures { λ _. ⌜ (m ≤ 64 → 64 + m ≤ length (now (w .entry)) → Is (front m (now (w .exit))) (Then (Holds (front m (now (w .entry)))) (Holds (next m (now (w .entry)))))) ⌝ }
+{
+    if m > 64 {
+        return;
+    }
+    let mut i = m as usize;
+    let end = 64 + i;
+    if w.len() < end {
+        return;
+    }
+    while i > 0 {
+        i -= 1;
+        let r = image(w[i], &w[64..end]);
+        w[i] = r;
+    }
+}
+
+// One or more steps of a relation that goes up: the words after i are closed before word i is.
+pub fn close(m: u32, w: &mut [u64])
+    ensures { λ _. ⌜ (m ≤ 64 → m ≤ length (now (w .entry)) → Up (Holds (front m (now (w .entry)))) → Is (front m (now (w .exit))) (Plus (Holds (front m (now (w .entry)))))) ⌝ }
+{
+    if m > 64 {
+        return;
+    }
+    let end = m as usize;
+    if w.len() < end {
+        return;
+    }
+    let mut i = end;
+    while i > 0 {
+        i -= 1;
+        let s = w[i];
+        let r = image(s, &w[..end]);
+        w[i] = s | r;
+    }
+}

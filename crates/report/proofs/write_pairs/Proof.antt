@@ -1,0 +1,35 @@
+use Prim.Native.Nat.{_*_}
+use mathlib.Core.Path.{sym}
+use native.Mathlib.Omega.{arith}
+use lib.Seq.{length-take-le}
+use borrow.Author.Needs.{needs}
+use Rattle.report.proofs.write_pairs.Statement.{statement}
+use Rattle.report.proofs.write_pairs.Tie as tie
+use Rattle.report.proofs.write_pairs.Reads as reads
+use Rattle.report.proofs.write_pairs.Lts as lts
+use Rattle.writer.proofs.write_matches.Reads as write-matches-reads
+
+-- src/lib.rt:15:17
+mul-words : tie.Need-mul-words
+mul-words c = search needs
+
+-- src/lib.rt:16:34
+slice-aggregate-write-matches : tie.Need-slice-aggregate-write-matches
+slice-aggregate-write-matches c = sym (length-take-le (c .before .before .before .args .pairs * 2) (c .before .before .before .args .list .now) (omega arith))
+
+-- src/lib.rt:16:5
+write-matches-requires : tie.Need-write-matches-requires
+write-matches-requires c κs = search needs
+
+-- src/lib.rt:11:1
+same-length : tie.Need-same-length
+same-length c = search needs
+
+-- src/lib.rt:11:1
+returns : tie.Need-returns
+returns c = let e = length-take-le (c .before .before .before .before .before .before .before .args .pairs * 2) (c .before .before .before .before .before .before .before .args .list .now) (omega arith) in c .before .before .write-matches .ensures (omega arith) (omega arith)
+
+pub write-pairs-spec : {M : Type 1} → statement M
+write-pairs-spec =
+    tie.close
+    (tie.spec mul-words slice-aggregate-write-matches write-matches-requires same-length returns)

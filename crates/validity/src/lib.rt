@@ -1,0 +1,48 @@
+// Whether an instance is valid, from the table of pairs.
+ghost use mathlib.Core.Path.{_≡_};
+ghost use Rattle.schema.specs.Rows.{kindOf};
+ghost use Rattle.validity.specs.Start.{TellsRoot, TellsValid};
+
+// Whether the root matches either operand of the choice at row p. An operand that is no smaller row is not visited.
+fn matches_either(schema: &[u32], pairs: &[u8], p: u32) -> bool
+    requires { ⌜ kindOf (now schema) p ≡ 10 ⌝ }
+    ensures { λ r. ⌜ TellsRoot (now (schema .entry)) (now (pairs .entry)) p r ⌝ }
+{
+    let first = schema::field_a(schema, p);
+    let second = schema::field_b(schema, p);
+    if first < p {
+        if second < p {
+            if root_matches(schema, pairs, first) {
+                return true;
+            }
+            return root_matches(schema, pairs, second);
+        }
+    }
+    false
+}
+
+// Whether the root matches the pattern at row p, a pattern of start.
+fn root_matches(schema: &[u32], pairs: &[u8], p: u32) -> bool
+    ensures { λ r. ⌜ TellsRoot (now (schema .entry)) (now (pairs .entry)) p r ⌝ }
+{
+    let kind = schema::kind(schema, p);
+    match kind {
+        8 => tables::byte(pairs, schema::field_a(schema, p) as usize) == 1,
+        10 => matches_either(schema, pairs, p),
+        _ => false,
+    }
+}
+
+// Whether the instance is valid: start is the last row.
+pub fn valid(schema: &[u32], pairs: &[u8]) -> bool
+    ensures { λ r. ⌜ TellsValid (now (schema .entry)) (now (pairs .entry)) r ⌝ }
+{
+    let rows = schema.len() / 3;
+    if rows < 1 {
+        return false;
+    }
+    if 512 < rows {
+        return false;
+    }
+    root_matches(schema, pairs, schema::field_a(schema, rows as u32 - 1))
+}
