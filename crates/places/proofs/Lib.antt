@@ -1,4 +1,2 @@
-pub mod Faults
 pub mod Marks
-pub mod Places
 pub mod Sweep

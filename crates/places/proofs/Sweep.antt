@@ -1,13 +1,15 @@
 -- A sweep over the rows from the last to the first, in which each row marks children of its own.
-use Prim.Native.Nat.{ℕ, suc, _≤_}
+use Prim.Native.Nat.{ℕ, suc, _+_, _≤_}
 use mathlib.Core.Path.{_≡_, refl, sym, subst}
 use mathlib.Core.Bool.{true, false, false≢true}
 use mathlib.Core.Logic.{_⊎_, inl, inr, ⊎-elim}
 use mathlib.Core.List.{List}
 use native.Mathlib.Nat.{eq-or-lt-of-le}
 use native.Mathlib.Omega.{arith}
+use lib.ListN.{List·getD-eq-default}
 use Rattle.tables.specs.Outputs.{zeros}
-use Rattle.schema.specs.Rows.{kindOf, shapeOf}
+use Rattle.schema.specs.RowRule.{maxRows}
+use Rattle.schema.specs.Rows.{rowsOf, kindOf, shapeOf}
 use Rattle.schema.specs.Relations.{Child, by-a, by-b, Below, child, deeper}
 use Rattle.schema.proofs.Children.{child-less}
 use Rattle.places.specs.Marks.{Marked, Marks, Adds, RowEnd, ChildThat, Under}
@@ -18,6 +20,10 @@ childless : {s : List ℕ} {p r : ℕ} → kindOf s p ≡ 0 → ¬ Child s p r
 unfolding shapeOf
 childless {s} {p} e (by-a n f) = false≢true (rw e at n)
 childless {s} {p} e (by-b n f) = false≢true (rw e at n)
+
+-- a row from there on starts past the last word
+pub row-end : {s : List ℕ} → rowsOf s ≤ maxRows → RowEnd s (rowsOf s + 1)
+row-end {s} h = record { few = omega arith; past = λ p k. List·getD-eq-default s 0 (omega arith) }
 
 -- r is a child of a row from m on, and the row marks it
 pub record Swept (s : List ℕ) (Q : ℕ → ℕ → Type 0) (m r : ℕ) : Type 0 where

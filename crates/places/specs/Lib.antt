@@ -1,5 +1,4 @@
 pub mod Marks
-pub mod Misplaced
 pub mod Names
 pub mod Paths
 pub mod Places

@@ -5,6 +5,7 @@ use mathlib.Core.Bool.{Bool, true}
 use mathlib.Core.Logic.{_⊎_}
 use mathlib.Core.List.{List}
 use lib.ListN.{length, getD}
+use Rattle.tables.specs.Outputs.{zeros}
 use Rattle.schema.specs.RowRule.{maxRows}
 use Rattle.schema.specs.Rows.{rowsOf, kindOf, childA, childB}
 use Rattle.schema.specs.Relations.{Child, Below}
@@ -54,3 +55,9 @@ pub record Under (s : List ℕ) (S : ℕ → Type 0) (r : ℕ) : Type 0 where
   pub row : ℕ
   pub source : S row
   pub below : Below s r row
+
+-- after marks the rows below S where the table has room for them, and is all zeros otherwise
+pub record MarksUnder (s : List ℕ) (S : ℕ → Type 0) (before after : List ℕ) : Type 0 where
+  pub marks : rowsOf s ≤ maxRows → maxRows ≤ length before → Marks (Under s S) after
+  pub many-rows : maxRows < rowsOf s → after ≡ zeros (length before)
+  pub no-room : length before < maxRows → after ≡ zeros (length before)

@@ -1,20 +1,14 @@
--- The rows below which a kind is prohibited, the sets of kinds prohibited there, and the first of two faults.
+-- The rows that mark those below them.
 use Prim.Native.Nat.{ℕ}
 use mathlib.Core.Path.{_≡_}
-use mathlib.Core.Bool.{Bool, true, cond, _||_}
+use mathlib.Core.Bool.{true}
 use mathlib.Core.Logic.{_⊎_}
 use mathlib.Core.List.{List}
-use lib.Dec.{leb, eqb}
-use Rattle.tables.specs.declared.Checked.{Checked}
-use Rattle.tables.specs.declared.Checked.the-variants.{Fine, Fault}
-use Rattle.schema.specs.Kinds as kind
 use Rattle.schema.specs.Rows.{kindOf}
-use Rattle.places.specs.Marks.{Marked, Under}
-use Rattle.places.specs.Paths.{isPair, notInAttribute, notInExcept, notInStart}
+use Rattle.places.specs.Marks.{Marked}
+use Rattle.places.specs.Paths.{isPair}
 use Rattle.places.specs.declared.Source.{Source}
 use Rattle.places.specs.declared.Source.the-variants.{OfKind, MarkedPair}
-use Rattle.places.specs.declared.Kinds.{Kinds}
-use Rattle.places.specs.declared.Kinds.the-variants.{Every, NotInAnyName, NotInNsName, NotInAttribute, NotInPair, NotInExcept, NotInStart}
 
 abbrev pub HasKind : List ℕ → ℕ → ℕ → Type 0
 HasKind s k p = kindOf s p ≡ k
@@ -31,32 +25,3 @@ IsSource s MarkedPair t p = PairIn s t p
 -- the marks of below pass on to the children of p
 abbrev pub Passes : List ℕ → Source → List ℕ → List ℕ → ℕ → Type 0
 Passes s source t below p = IsSource s source t p ⊎ Marked below p
-
-abbrev pub inKinds : Kinds → ℕ → Bool
-inKinds Every k = true
-inKinds NotInAnyName k = eqb k kind.anyName
-inKinds NotInNsName k = eqb k kind.anyName || eqb k kind.nsName
-inKinds NotInAttribute k = notInAttribute k
-inKinds NotInPair k = eqb k kind.attribute
-inKinds NotInExcept k = notInExcept k
-inKinds NotInStart k = notInStart k
-
--- row r is marked, and has a kind of the set
-pub record MarkedKind (s t : List ℕ) (kinds : Kinds) (r : ℕ) : Type 0 where
-  pub mark : Marked t r
-  pub among : inKinds kinds (kindOf s r) ≡ true
-
--- row r has a kind of the set, and is below a row of which S holds
-pub record Prohibited (s : List ℕ) (S : ℕ → Type 0) (kinds : Kinds) (r : ℕ) : Type 0 where
-  pub under : Under s S r
-  pub among : inKinds kinds (kindOf s r) ≡ true
-
--- the groups and interleaves below a oneOrMore
-pub record RepeatedPair (s : List ℕ) (p : ℕ) : Type 0 where
-  pub pair : isPair (kindOf s p) ≡ true
-  pub repeated : Under s (HasKind s kind.oneOrMore) p
-
-abbrev pub earliest : Checked → Checked → Checked
-earliest Fine b = b
-earliest (Fault x) Fine = Fault x
-earliest (Fault x) (Fault y) = cond (leb x y) (Fault x) (Fault y)

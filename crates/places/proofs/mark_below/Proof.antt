@@ -3,12 +3,12 @@ use Prim.Native.Nat.{suc, _≤_}
 use mathlib.Core.Path.{_≡_, refl}
 use native.Mathlib.Omega.{arith}
 use denote.Ref.{now}
-use lib.ListN.{length}
 use borrow.Author.Needs.{needs}
+use lib.ListN.{length}
 use Rattle.schema.specs.RowRule.{maxRows}
 use Rattle.places.specs.Marks.{Marks}
 use Rattle.places.specs.Sources.{IsSource}
-use Rattle.places.proofs.Sweep.{Swept, Passed, sweep-none, sweep-below, sweep-end}
+use Rattle.places.proofs.Sweep.{Swept, Passed, row-end, sweep-none, sweep-below, sweep-end}
 use Rattle.places.proofs.mark_below.Statement.{statement}
 use Rattle.places.proofs.mark_below.Tie as tie
 
@@ -21,11 +21,26 @@ abbrev μ-loop : tie.MeasureT-loop
 zero-u32-requires : tie.Need-zero-u32-requires Inv-loop μ-loop
 zero-u32-requires c κs = search needs
 
-row-end-requires : tie.Need-row-end-requires Inv-loop μ-loop
-row-end-requires c κs = c .before .before .before .before .before .before .before .pre .few
+same-length : tie.Need-same-length Inv-loop μ-loop
+same-length c = search needs
+
+returns : tie.Need-returns Inv-loop μ-loop
+returns c = record { marks = λ h l. absurd (omega arith); many-rows = λ h. c .before .before .before .zero-u32 .ensures; no-room = λ h. c .before .before .before .zero-u32 .ensures }
+
+same-length-2 : tie.Need-same-length-2 Inv-loop μ-loop
+same-length-2 c = search needs
+
+returns-2 : tie.Need-returns-2 Inv-loop μ-loop
+returns-2 c = record { marks = λ h l. absurd (omega (arith, c .before .before .before .before .zero-u32 .kept .0)); many-rows = λ h. c .before .before .before .before .zero-u32 .ensures; no-room = λ h. c .before .before .before .before .zero-u32 .ensures }
+
+add-p : tie.Need-add-p Inv-loop μ-loop
+add-p c = omega arith
+
+cast-p : tie.Need-cast-p Inv-loop μ-loop
+cast-p c = omega arith
 
 loop-holds : tie.Need-loop-holds Inv-loop μ-loop
-loop-holds c = (refl, c .row-end .ensures .few, rw (c .before .before .before .zero-u32 .ensures) (sweep-none (length (now (c .before .before .before .before .before .before .before .before .args .below))) (c .row-end .ensures)))
+loop-holds c = (refl, omega arith, rw (c .before .before .before .before .zero-u32 .ensures) (sweep-none (length (now (c .before .before .before .before .before .before .before .before .before .args .below))) (row-end (c .before .if1 .left))))
 
 sub-p : tie.Need-sub-p Inv-loop μ-loop
 sub-p c = omega arith
@@ -39,11 +54,11 @@ loop-less c = omega arith
 loop-again : tie.Need-loop-again Inv-loop μ-loop
 loop-again c = (omega arith, omega arith, sweep-below (omega arith) (c .before .before .before .before .before .loop .inv .2) (c .before .before .pass-below .ensures))
 
-same-length : tie.Need-same-length Inv-loop μ-loop
-same-length c = omega arith
+same-length-3 : tie.Need-same-length-3 Inv-loop μ-loop
+same-length-3 c = search needs
 
-returns : tie.Need-returns Inv-loop μ-loop
-returns c = sweep-end (omega arith) (c .before .loop .inv .2)
+returns-3 : tie.Need-returns-3 Inv-loop μ-loop
+returns-3 c = record { marks = λ h l. sweep-end (omega arith) (c .before .loop .inv .2); many-rows = λ h. absurd (omega arith); no-room = λ h. absurd (omega (arith, c .before .before .before .before .before .before .zero-u32 .kept .0)) }
 
 pub mark-below-spec : {M : Type 1} → statement M
 mark-below-spec =
@@ -52,11 +67,16 @@ mark-below-spec =
     Inv-loop
     μ-loop
     zero-u32-requires
-    row-end-requires
+    same-length
+    returns
+    same-length-2
+    returns-2
+    add-p
+    cast-p
     loop-holds
     sub-p
     pass-below-requires
     loop-less
     loop-again
-    same-length
-    returns)
+    same-length-3
+    returns-3)

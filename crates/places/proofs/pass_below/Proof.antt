@@ -15,7 +15,7 @@ same-length : tie.Need-same-length
 same-length c = search needs
 
 returns : tie.Need-returns
-returns c = adds-those (omega arith) _ (c .before .before .before .before .passes .ensures) (c .before .before .before .before .passes .ensures) (c .before .before .mark-children .ensures)
+returns c = adds-those (omega arith) _ (c .before .before .before .before .passes .ensures) (c .before .before .before .before .passes .ensures) (c .before .before .mark-children .ensures (omega arith))
 
 pub pass-below-spec : {M : Type 1} → statement M
 pass-below-spec = tie.close (tie.spec passes-requires mark-children-requires same-length returns)

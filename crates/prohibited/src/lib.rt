@@ -1,0 +1,181 @@
+// The name class constraint and the prohibited paths, codes 4 and 5.
+use places::Source;
+use tables::Checked;
+ghost use mathlib.Core.Path.{_≡_};
+ghost use Prim.Native.Nat.{_≤_};
+ghost use lib.ListN.{length};
+ghost use Rattle.tables.specs.Answers.{Finds};
+ghost use Rattle.schema.specs.RowRule.{maxRows};
+ghost use Rattle.schema.specs.Rows.{rowsOf};
+ghost use Rattle.schema.specs.Bounded.{Bounded};
+ghost use Rattle.places.specs.Sources.{HasKind};
+ghost use Rattle.places.specs.Names.{NameFault};
+ghost use Rattle.places.specs.Paths.{notInAttribute, notInExcept, notInStart, PathFault};
+ghost use Rattle.prohibited.specs.Prohibited.{inKinds, MarkedKind, Prohibited, RepeatedPair, earliest};
+
+// The kinds of rows that the restrictions name, by their numbers in document 01.
+const EMPTY: u32 = 1;
+
+const TEXT: u32 = 3;
+
+const DATA: u32 = 4;
+
+const VALUE: u32 = 5;
+
+const ATTRIBUTE: u32 = 7;
+
+const REF: u32 = 8;
+
+const ONE_OR_MORE: u32 = 9;
+
+const ANY_NAME: u32 = 16;
+
+const NS_NAME: u32 = 17;
+
+const START: u32 = 21;
+
+// What may not stand below an anyName, an nsName, an attribute, a group or interleave in a oneOrMore, a data, the start.
+enum Kinds {
+    NotInAnyName,
+    NotInNsName,
+    NotInAttribute,
+    NotInPair,
+    NotInExcept,
+    NotInStart,
+}
+
+fn not_in_attribute(kind: u32) -> bool
+    ensures { λ r. ⌜ r ≡ notInAttribute kind ⌝ }
+{
+    (kind == REF) | (kind == ATTRIBUTE)
+}
+
+fn not_in_except(kind: u32) -> bool
+    ensures { λ r. ⌜ r ≡ notInExcept kind ⌝ }
+{
+    (kind == ATTRIBUTE)
+        | (kind == REF)
+        | (kind == TEXT)
+        | places::is_pair(kind)
+        | (kind == ONE_OR_MORE)
+        | (kind == EMPTY)
+}
+
+fn not_in_start(kind: u32) -> bool
+    ensures { λ r. ⌜ r ≡ notInStart kind ⌝ }
+{
+    (kind == ATTRIBUTE)
+        | (kind == DATA)
+        | (kind == VALUE)
+        | (kind == TEXT)
+        | places::is_pair(kind)
+        | (kind == ONE_OR_MORE)
+        | (kind == EMPTY)
+}
+
+fn in_kinds(kinds: Kinds, kind: u32) -> bool
+    ensures { λ r. ⌜ r ≡ inKinds kinds kind ⌝ }
+{
+    match kinds {
+        Kinds::NotInAnyName => kind == ANY_NAME,
+        Kinds::NotInNsName => (kind == ANY_NAME) | (kind == NS_NAME),
+        Kinds::NotInAttribute => not_in_attribute(kind),
+        Kinds::NotInPair => kind == ATTRIBUTE,
+        Kinds::NotInExcept => not_in_except(kind),
+        Kinds::NotInStart => not_in_start(kind),
+    }
+}
+
+// The first marked row whose kind is in the set.
+fn first_marked(schema: &[u32], marks: &[u32], kinds: Kinds) -> Checked
+    requires { ⌜ length (now marks) ≤ maxRows ⌝ }
+    ensures { λ r. ⌜ Finds (MarkedKind (now (schema .entry)) (now (marks .entry)) kinds) r ⌝ }
+{
+    let mut r = 0;
+    while r < marks.len() {
+        if marks[r] == 1 {
+            if in_kinds(kinds, schema::kind(schema, r as u32)) {
+                return Checked::Fault(r as u32);
+            }
+        }
+        r += 1;
+    }
+    Checked::Fine
+}
+
+// The first of two faults.
+fn earlier(a: Checked, b: Checked) -> Checked
+    ensures { λ r. ⌜ r ≡ earliest a b ⌝ }
+{
+    let Checked::Fault(x) = a else {
+        return b;
+    };
+    let Checked::Fault(y) = b else {
+        return a;
+    };
+    if x <= y { a } else { b }
+}
+
+// The first row below a row of a kind whose own kind is in the set.
+fn first_below(schema: &[u32], above: u32, kinds: Kinds) -> Checked
+    requires { ⌜ rowsOf (now schema) ≤ maxRows ⌝ }
+    ensures { λ r. ⌜ Finds (Prohibited (now (schema .entry)) (HasKind (now (schema .entry)) above) kinds) r ⌝ }
+{
+    let mut below = [0u32; 512];
+    places::mark_below(schema, Source::OfKind(above), schema, &mut below);
+    first_marked(schema, &below, kinds)
+}
+
+// The first attribute below a group or interleave that is below a oneOrMore.
+fn first_repeated(schema: &[u32]) -> Checked
+    requires { ⌜ rowsOf (now schema) ≤ maxRows ⌝ }
+    ensures { λ r. ⌜ Finds (Prohibited (now (schema .entry)) (RepeatedPair (now (schema .entry))) Kinds.NotInPair) r ⌝ }
+{
+    let mut repeated = [0u32; 512];
+    places::mark_below(schema, Source::OfKind(ONE_OR_MORE), schema, &mut repeated);
+    let mut below = [0u32; 512];
+    places::mark_below(schema, Source::MarkedPair, &repeated, &mut below);
+    first_marked(schema, &below, Kinds::NotInPair)
+}
+
+// The first row on a prohibited path.
+fn first_prohibited(schema: &[u32]) -> Checked
+    requires { ⌜ rowsOf (now schema) ≤ maxRows ⌝ }
+    ensures { λ r. ⌜ Finds (PathFault (now (schema .entry))) r ⌝ }
+{
+    let attribute = first_below(schema, ATTRIBUTE, Kinds::NotInAttribute);
+    let repeated = first_repeated(schema);
+    let except = first_below(schema, DATA, Kinds::NotInExcept);
+    let start = first_below(schema, START, Kinds::NotInStart);
+    earlier(earlier(attribute, repeated), earlier(except, start))
+}
+
+// The first anyName or nsName in an except that has no place for it.
+fn first_name(schema: &[u32]) -> Checked
+    requires { ⌜ rowsOf (now schema) ≤ maxRows ⌝ }
+    ensures { λ r. ⌜ Finds (NameFault (now (schema .entry))) r ⌝ }
+{
+    let any = first_below(schema, ANY_NAME, Kinds::NotInAnyName);
+    let ns = first_below(schema, NS_NAME, Kinds::NotInNsName);
+    earlier(any, ns)
+}
+
+// Code 4: the first anyName or nsName in an except that has no place for it.
+pub fn check_names(schema: &[u32]) -> Checked
+    ensures { λ r. ⌜ Bounded (now (schema .entry)) (NameFault (now (schema .entry))) r ⌝ }
+{
+    if schema::MAX_ROWS < schema.len() / 3 {
+        return Checked::Fault(0);
+    }
+    first_name(schema)
+}
+
+// Code 5: the first row on a prohibited path.
+pub fn check_paths(schema: &[u32]) -> Checked
+    ensures { λ r. ⌜ Bounded (now (schema .entry)) (PathFault (now (schema .entry))) r ⌝ }
+{
+    if schema::MAX_ROWS < schema.len() / 3 {
+        return Checked::Fault(0);
+    }
+    first_prohibited(schema)
+}
