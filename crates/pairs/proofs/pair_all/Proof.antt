@@ -13,10 +13,10 @@ use Rattle.pairs.proofs.pair_all.Lts as lts
 use Rattle.pairs.proofs.pair_node.Reads as pair-node-reads
 
 abbrev Inv-loop : tie.InvT-loop
-Inv-loop schema instance alone nothing blank items₀ pairs₀ marks₀ named₀ taken₀ single₀ work₀ r₀ items pairs marks named taken single work r = (r ≤ nodesOf instance) × (length items ≡ length items₀) × (length pairs ≡ length pairs₀) × (length marks ≡ length marks₀) × (length named ≡ length named₀) × (length taken ≡ length taken₀) × (length single ≡ length single₀) × (length work ≡ length work₀) × ((bytes ends : List ℕ) → Filling bytes ends schema instance alone nothing blank pairs₀ (nodesOf instance) → Filling bytes ends schema instance alone nothing blank pairs r)
+Inv-loop schema instance alone nothing blank definitions items₀ pairs₀ marks₀ named₀ taken₀ single₀ work₀ r₀ items pairs marks named taken single work r = (r ≤ nodesOf instance) × (length items ≡ length items₀) × (length pairs ≡ length pairs₀) × (length marks ≡ length marks₀) × (length named ≡ length named₀) × (length taken ≡ length taken₀) × (length single ≡ length single₀) × (length work ≡ length work₀) × ((bytes ends : List ℕ) → Filling bytes ends schema instance alone nothing blank pairs₀ (nodesOf instance) → Filling bytes ends schema instance alone nothing blank pairs r)
 
 abbrev μ-loop : tie.MeasureT-loop
-μ-loop schema instance alone nothing blank items₀ pairs₀ marks₀ named₀ taken₀ single₀ work₀ r₀ items pairs marks named taken single work r = r
+μ-loop schema instance alone nothing blank definitions items₀ pairs₀ marks₀ named₀ taken₀ single₀ work₀ r₀ items pairs marks named taken single work r = r
 
 -- src/lib.rt:451:5
 loop-holds : tie.Need-loop-holds Inv-loop μ-loop
@@ -28,11 +28,11 @@ sub-r c = search needs
 
 -- src/lib.rt:459:13
 cast-pair-node : tie.Need-cast-pair-node Inv-loop μ-loop
-cast-pair-node c = let i = c .before .loop .inv in let x0 = i .0 in let x1 = i .1 in let x2 = i .2 in let x3 = i .3 in let x4 = i .4 in let x5 = i .5 in let x6 = i .6 in let x7 = i .7 in let q = c .before .before .before .before .before .before .before .before .before .before .before .before .before .before .pre in let q0 = q .0 in let q1 = q .1 in let q2 = q .2 in let q3 = q .3 in let q4 = q .4 in let q5 = q .5 in let q6 = q .6 in let q7 = q .7 in let q8 = q .8 in omega arith
+cast-pair-node c = let i = c .before .loop .inv in let x0 = i .0 in let x1 = i .1 in let x2 = i .2 in let x3 = i .3 in let x4 = i .4 in let x5 = i .5 in let x6 = i .6 in let x7 = i .7 in let q = c .before .before .before .before .before .before .before .before .before .before .before .before .before .before .before .pre in let q0 = q .0 in let q1 = q .1 in let q2 = q .2 in let q3 = q .3 in let q4 = q .4 in let q5 = q .5 in let q6 = q .6 in let q7 = q .7 in let q8 = q .8 in omega arith
 
 -- src/lib.rt:453:9
 pair-node-requires : tie.Need-pair-node-requires Inv-loop μ-loop
-pair-node-requires c κs = let i = c .before .before .before .before .before .before .before .before .loop .inv in let x0 = i .0 in let x1 = i .1 in let x2 = i .2 in let x3 = i .3 in let x4 = i .4 in let x5 = i .5 in let x6 = i .6 in let x7 = i .7 in let q = c .before .before .before .before .before .before .before .before .before .before .before .before .before .before .before .before .before .before .before .before .before .pre in let q0 = q .0 in let q1 = q .1 in let q2 = q .2 in let q3 = q .3 in let q4 = q .4 in let q5 = q .5 in let q6 = q .6 in let q7 = q .7 in let q8 = q .8 in (omega arith, omega arith, omega arith, omega arith, omega arith, omega arith, omega arith, omega arith, omega arith, omega arith, omega arith)
+pair-node-requires c κs = let i = c .before .before .before .before .before .before .before .before .loop .inv in let x0 = i .0 in let x1 = i .1 in let x2 = i .2 in let x3 = i .3 in let x4 = i .4 in let x5 = i .5 in let x6 = i .6 in let x7 = i .7 in let q = c .before .before .before .before .before .before .before .before .before .before .before .before .before .before .before .before .before .before .before .before .before .before .pre in let q0 = q .0 in let q1 = q .1 in let q2 = q .2 in let q3 = q .3 in let q4 = q .4 in let q5 = q .5 in let q6 = q .6 in let q7 = q .7 in let q8 = q .8 in (omega arith, omega arith, omega arith, omega arith, omega arith, omega arith, omega arith, omega arith, omega arith, omega arith, omega arith, q .9)
 
 -- src/lib.rt:451:5
 loop-less : tie.Need-loop-less Inv-loop μ-loop
