@@ -6,12 +6,12 @@ use mathlib.Core.List.{List}
 use mathlib.Core.Logic.{_⊎_, inl, inr, ⊎-elim, _≢_}
 use native.Mathlib.Nat.{eq-or-lt-of-le}
 use native.Mathlib.Omega.{arith}
-use lib.ListN.{length, getD, set}
-use lib.Seq.{getD-set-same, getD-set-other}
+use lib.ListN.{length, getD, set, take}
+use lib.Seq.{getD-set-same, getD-set-other, getD-take, length-take-le}
 use Rattle.schema.specs.Kinds as kind
 use Rattle.schema.specs.Rows.{kindOf, shapeOf, isElement}
 use Rattle.schema.proofs.Sorts.{definition-kind}
-use Rattle.definitions.specs.Definitions.{isDefinition, DefinitionsBelow}
+use Rattle.definitions.specs.Definitions.{isDefinition, DefinitionsBelow, Definitions}
 
 pub definitions-none : (s words : List ℕ) → DefinitionsBelow s words 0 0
 definitions-none s words = record { few = omega arith; rows = λ k h. absurd (omega arith); defined = λ k h. absurd (omega arith); rising = λ j k i h. absurd (omega arith); every = λ d h. absurd (omega arith) }
@@ -83,3 +83,13 @@ count-none s d f = go (isDefinition s d) refl
 pub one-or-none : (b : Bool) {m : ℕ} → m ≡ cond b 1 0 → m ≤ 1
 one-or-none true e = omega arith
 one-or-none false e = omega arith
+
+-- the definitions as a list of their own
+pub definitions-part : {s words : List ℕ} {n : ℕ} → n ≤ length words → Definitions s words n → Definitions s (take n words) (length (take n words))
+definitions-part {s} {words} {n} l d = rw (length-take-le n words l) (record {
+  few = d .few;
+  rows = λ k h. rw (getD-take n words k 0 h) (d .rows k h);
+  defined = λ k h. rw (getD-take n words k 0 h) (d .defined k h);
+  rising = λ j k i h. rw (getD-take n words j 0 (omega arith), getD-take n words k 0 h) (d .rising j k i h);
+  every = λ x m h. let i = d .every x m h in (i .0, i .1, getD-take n words (i .0) 0 (i .1) ∙ i .2);
+})

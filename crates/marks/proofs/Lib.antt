@@ -1,7 +1,7 @@
 pub mod Collecting
 pub mod Leaves
+pub mod Marking
 pub mod Operands
 pub mod Reaching
 pub mod RowKinds
-pub mod Rows
 pub mod Singles

@@ -16,10 +16,9 @@ use Rattle.rules.specs.Items.{Item, element, string, Lookups}
 use Rattle.rules.specs.Job.{lookups}
 use Rattle.rules.proofs.Booleans.{is-false}
 use Rattle.rules.proofs.KindTests.{attribute-made, ref-made}
-use Rattle.rules.proofs.Passing.{restricted}
-use Rattle.rules.proofs.Reach.{Operand, operand, Reaches, here, namesAttribute, namesElement, takes, takesString}
+use Rattle.rules.proofs.Reach.{Reaches, here, namesAttribute, namesElement, takes, takesString}
 use Rattle.rules.proofs.RowPatterns.{Makes, row-makes}
-use Rattle.marks.specs.Answers.{Below}
+use Rattle.marks.specs.Answers.{AtOperands}
 use Rattle.marks.specs.Given.{itemAt}
 use Rattle.marks.specs.Marks.{attributeRow}
 use Rattle.marks.specs.Marks.{NamedWord, TakenWord}
@@ -50,10 +49,6 @@ module _ (bytes ends s t : List ℕ) (pass : SchemaPasses (length ends) s) (p : 
   abbrev L : Lookups
   L = lookups bytes ends s t
 
-  -- the words of the operands, which are below rows
-  operand-row : (r : ℕ) → Operand r (patternOf s p) → r < p
-  operand-row r o = restricted pass bytes ends t .falls p r (operand o)
-
   -- a leaf reaches itself alone
   leaf-reaches : {test : Pattern → Bool} {b : Bool} → kindOf s p < 9 → test (patternOf s p) ≡ b → (b ≡ true) ↔ Reaches L test (patternOf s p)
   leaf-reaches h f = (λ u. here (f ∙ u), λ i. sym f ∙ reaches-itself L (λ r o. let k = operand-kinds o (row-makes s p refl) .0 in omega arith) i)
@@ -65,11 +60,11 @@ module _ (bytes ends s t : List ℕ) (pass : SchemaPasses (length ends) s) (p : 
     pub named-attribute : {w : ℕ} → kindOf s p ≡ kind.attribute → Collects (attributeNamed s t e (aOf s p)) attributes w → Named p w
     named-attribute f c x h = rw (collected c h) (leaf-reaches (omega arith) (ap (namesAttribute L (attributeRow e x)) (attribute-at s p f)))
 
-    pub named-other : {w : ℕ} (named : List ℕ) → kindOf s p ≢ kind.attribute → w ≡ joinedBy (kindOf s p) (getD named (aOf s p) 0) (getD named (bOf s p) 0) → Below Named named p → Named p w
-    named-other named f k below x h =
+    pub named-other : {w : ℕ} (named : List ℕ) → kindOf s p ≢ kind.attribute → w ≡ joinedBy (kindOf s p) (getD named (aOf s p) 0) (getD named (bOf s p) 0) → AtOperands s Named named p → Named p w
+    named-other named f k operands x h =
         let u = attributeRow e x in
         let m = row-makes s p refl in
-        rw k (joined-reaches L named x m (is-false (namesAttribute L u (patternOf s p)) (λ i. f (attribute-made L u m i .0))) (λ r o. below r (operand-row r o) x h))
+        rw k (joined-reaches L named x m (is-false (namesAttribute L u (patternOf s p)) (λ i. f (attribute-made L u m i .0))) (λ r o. operands r o x h))
 
   module _ (items : List ℕ) (texts : ℕ) where
     abbrev Taken : ℕ → ℕ → Type 0
@@ -93,7 +88,7 @@ module _ (bytes ends s t : List ℕ) (pass : SchemaPasses (length ends) s) (p : 
         by-item false = rw (ref-at s p f, ref-definition (pass .rows) p f)
 
     pub taken-other : {w : ℕ} (taken : List ℕ) → (3 ≤ kindOf s p → ¬ (kindOf s p < 6)) → kindOf s p ≢ kind.ref
-        → w ≡ joinedBy (kindOf s p) (getD taken (aOf s p) 0) (getD taken (bOf s p) 0) → Below Taken taken p → Taken p w
-    taken-other taken no-string no-ref q below k h =
+        → w ≡ joinedBy (kindOf s p) (getD taken (aOf s p) 0) (getD taken (bOf s p) 0) → AtOperands s Taken taken p → Taken p w
+    taken-other taken no-string no-ref q operands k h =
         let m = row-makes s p refl in
-        rw q (joined-reaches L taken k m (other-takes L m no-string no-ref (itemAt bytes ends items texts k)) (λ r o. below r (operand-row r o) k h))
+        rw q (joined-reaches L taken k m (other-takes L m no-string no-ref (itemAt bytes ends items texts k)) (λ r o. operands r o k h))

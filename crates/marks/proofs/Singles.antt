@@ -22,12 +22,12 @@ use Rattle.rules.proofs.Inversion.{step, AttributeMatch}
 use Rattle.rules.proofs.KindTests.{attribute-made}
 use Rattle.rules.proofs.Occurrences.{named}
 use Rattle.rules.proofs.Passing.{restricted}
-use Rattle.rules.proofs.Reach.{Operand, repeated, choice-first, choice-second, operand, Reaches, here, there, itself, down, namesAttribute}
+use Rattle.rules.proofs.Reach.{Operand, repeated, choice-first, choice-second, Reaches, here, there, itself, down, namesAttribute}
 use Rattle.rules.proofs.Repeats.{span-oneOrMore-attributes}
 use Rattle.rules.proofs.Restricted.{Restricted}
 use Rattle.rules.proofs.RowPatterns.{Makes, row-makes}
 use Rattle.rules.proofs.Runs.{run}
-use Rattle.marks.specs.Answers.{Below}
+use Rattle.marks.specs.Answers.{AtOperands}
 use Rattle.marks.specs.Marks.{attributeRow, TakesAttribute}
 use Rattle.marks.specs.Marks.{AttributeWord, SingleWord}
 use Rattle.marks.specs.Tests.{joinedBy}
@@ -99,11 +99,10 @@ module _ (bytes ends s t : List ℕ) (e attributes : ℕ) (pass : SchemaPasses (
       rw (attribute-at s p f) (λ u. i .0 (a .0 u), λ d. a .1 (i .1 d))
 
   pub single-operands : {w : ℕ} (single : List ℕ) → 9 ≤ kindOf s p → kindOf s p < 11 → w ≡ joinedBy (kindOf s p) (getD single (aOf s p) 0) (getD single (bOf s p) 0)
-      → Below Single single p → Single p w
-  single-operands single h l q below x i flat =
+      → AtOperands s Single single p → Single p w
+  single-operands single h l q operands x i flat =
       let y = attributeRow e x in
-      let falls = restricted pass bytes ends t .falls p in
-      let j = joined-operands single x (λ r. Alone L y (patternOf s r)) (row-makes s p refl) (λ r o. below r (falls r (operand o)) x i (λ z k. flat z (down r o k))) in
+      let j = joined-operands single x (λ r. Alone L y (patternOf s r)) (row-makes s p refl) (λ r o. operands r o x i (λ z k. flat z (down r o k))) in
       let o = by-operand y h l in
       rw q (λ u. o .0 (j .0 u), λ d. j .1 (o .1 d))
 

@@ -1,55 +1,78 @@
--- What the words of each table answer for the rows of a schema; cited by private functions only.
+-- What the words of a row answer, and what is marked by the functions that fill the tables; cited by private functions only.
 use Prim.Native.Nat.{ℕ, _≤_, _<_}
+use mathlib.Core.Bool.{cond, _&&_}
 use mathlib.Core.List.{List}
+use mathlib.Core.Logic.{_≢_}
+use lib.Dec.{leb}
 use lib.ListN.{length, getD}
-use Rattle.schema.specs.Rows.{rowsOf}
-use Rattle.schema.specs.RowRule.{maxRows}
+use Rattle.schema.specs.Kinds as kind
+use Rattle.schema.specs.Relations.{connective, Occurs}
+use Rattle.schema.specs.Rows.{rowsOf, kindOf, aOf, bOf}
+use Rattle.schema.specs.Views.{patternOf}
 use Rattle.instance.specs.Width.{maxWidth}
 use Rattle.restrictions.proofs.Passes.{SchemaPasses}
+use Rattle.rules.proofs.Reach.{Operand}
 use Rattle.marks.specs.Given.{itemAt, Given}
-use Rattle.marks.specs.Marks.{LeafWord, AttributeWord, NamedWord, TakenWord, SingleWord}
+use Rattle.marks.specs.Marks.{LeafWord, AttributeWord, NamedWord, TakenWord, SingleWord, RowMarked, PatternMarked, StayMarked, Marking}
 
--- as many rows, attributes and items as there may be
-pub record Limits (s items : List ℕ) (attributes : ℕ) : Type 0 where
-  pub few-rows : rowsOf s ≤ maxRows
+-- as many attributes and items as there may be, and a word for row p in each table
+pub record Room (items marks named taken single : List ℕ) (attributes p : ℕ) : Type 0 where
   pub few-attributes : attributes ≤ maxWidth
   pub few-items : length items ≤ maxWidth
+  pub in-marks : p < length marks
+  pub in-named : p < length named
+  pub in-taken : p < length taken
+  pub in-single : p < length single
 
--- P holds of the words of the rows below n
-abbrev pub Below : (ℕ → ℕ → Type 0) → List ℕ → ℕ → Type 0
-Below P words n = (p : ℕ) → p < n → P p (getD words p 0)
+-- the operands of row p, which stands itself for one that is not there
+unfoldable pub firstOperand : List ℕ → ℕ → ℕ
+firstOperand s p = cond (connective (kindOf s p)) (aOf s p) p
+
+unfoldable pub secondOperand : List ℕ → ℕ → ℕ
+secondOperand s p = cond (leb kind.choice (kindOf s p) && leb (kindOf s p) kind.interleave) (bOf s p) p
+
+-- P holds of the words of the operands of row p
+abbrev pub AtOperands : List ℕ → (ℕ → ℕ → Type 0) → List ℕ → ℕ → Type 0
+AtOperands s P words p = (r : ℕ) → Operand r (patternOf s p) → P r (getD words r 0)
 
 module _ (s t alone nothing blank pairs items : List ℕ) (e attributes texts : ℕ) where
   abbrev pub LeafAnswer : (p w : ℕ) → Type 0
   LeafAnswer p w = (bytes ends : List ℕ) → Given bytes ends s t alone nothing blank pairs items e attributes texts → p < rowsOf s
       → LeafWord bytes ends s t e attributes (itemAt bytes ends items texts) (length items) p w
 
-  abbrev pub LeavesBelow : (marks : List ℕ) (n : ℕ) → Type 0
-  LeavesBelow marks n = (bytes ends : List ℕ) → Given bytes ends s t alone nothing blank pairs items e attributes texts
-      → Below (LeafWord bytes ends s t e attributes (itemAt bytes ends items texts) (length items)) marks n
+  module _ (marks₀ named₀ taken₀ single₀ marks named taken single : List ℕ) where
+    -- where its operands are marked
+    abbrev pub RowAnswer : (p : ℕ) → Type 0
+    RowAnswer p = (bytes ends : List ℕ) → Given bytes ends s t alone nothing blank pairs items e attributes texts → p < rowsOf s
+        → ((r : ℕ) → Operand r (patternOf s p) → RowMarked bytes ends s t e attributes (itemAt bytes ends items texts) (length items) marks₀ named₀ taken₀ single₀ r)
+        → StayMarked bytes ends s t e attributes (itemAt bytes ends items texts) (length items) marks₀ named₀ taken₀ single₀ marks named taken single
+        × RowMarked bytes ends s t e attributes (itemAt bytes ends items texts) (length items) marks named taken single p
+
+    abbrev pub SmallerAnswer : (q p : ℕ) → Type 0
+    SmallerAnswer q p = (bytes ends : List ℕ) → Given bytes ends s t alone nothing blank pairs items e attributes texts → p < rowsOf s
+        → StayMarked bytes ends s t e attributes (itemAt bytes ends items texts) (length items) marks₀ named₀ taken₀ single₀ marks named taken single
+        × (q < p → PatternMarked bytes ends s t e attributes (itemAt bytes ends items texts) (length items) marks named taken single q)
+
+    -- every row that occurs in the pattern at row p but p
+    abbrev pub OperandsAnswer : (p : ℕ) → Type 0
+    OperandsAnswer p = (bytes ends : List ℕ) → Given bytes ends s t alone nothing blank pairs items e attributes texts → p < rowsOf s
+        → StayMarked bytes ends s t e attributes (itemAt bytes ends items texts) (length items) marks₀ named₀ taken₀ single₀ marks named taken single
+        × ((q : ℕ) → Occurs s q p → q ≢ p → RowMarked bytes ends s t e attributes (itemAt bytes ends items texts) (length items) marks named taken single q)
+
+    abbrev pub PatternAnswer : (p : ℕ) → Type 0
+    PatternAnswer p = (bytes ends : List ℕ) → Given bytes ends s t alone nothing blank pairs items e attributes texts → p < rowsOf s
+        → Marking bytes ends s t e attributes (itemAt bytes ends items texts) (length items) marks₀ named₀ taken₀ single₀ marks named taken single p
 
 module _ (s t : List ℕ) (e attributes : ℕ) where
-  abbrev pub NamedBelow : (named : List ℕ) (n : ℕ) → Type 0
-  NamedBelow named n = (bytes ends : List ℕ) → SchemaPasses (length ends) s → Below (NamedWord bytes ends s t e attributes) named n
-
-  -- where the words of smaller rows are right
   abbrev pub NamedAnswer : (named : List ℕ) (p w : ℕ) → Type 0
-  NamedAnswer named p w = (bytes ends : List ℕ) → SchemaPasses (length ends) s → Below (NamedWord bytes ends s t e attributes) named p → NamedWord bytes ends s t e attributes p w
+  NamedAnswer named p w = (bytes ends : List ℕ) → SchemaPasses (length ends) s → AtOperands s (NamedWord bytes ends s t e attributes) named p → NamedWord bytes ends s t e attributes p w
 
 module _ (s t items : List ℕ) (texts : ℕ) where
-  abbrev pub TakenBelow : (taken : List ℕ) (n : ℕ) → Type 0
-  TakenBelow taken n = (bytes ends : List ℕ) → SchemaPasses (length ends) s → Below (TakenWord bytes ends s t (itemAt bytes ends items texts) (length items)) taken n
-
   abbrev pub TakenAnswer : (taken : List ℕ) (p w : ℕ) → Type 0
-  TakenAnswer taken p w = (bytes ends : List ℕ) → SchemaPasses (length ends) s → Below (TakenWord bytes ends s t (itemAt bytes ends items texts) (length items)) taken p
+  TakenAnswer taken p w = (bytes ends : List ℕ) → SchemaPasses (length ends) s → AtOperands s (TakenWord bytes ends s t (itemAt bytes ends items texts) (length items)) taken p
       → TakenWord bytes ends s t (itemAt bytes ends items texts) (length items) p w
 
-module _ (s : List ℕ) where
-  -- from the words of attribute patterns
-  abbrev pub SingleBelow : (marks single : List ℕ) (n : ℕ) → Type 0
-  SingleBelow marks single n = (bytes ends t : List ℕ) (e attributes : ℕ) → SchemaPasses (length ends) s → Below (AttributeWord bytes ends s t e attributes) marks (rowsOf s)
-      → Below (SingleWord bytes ends s t e attributes) single n
-
-  abbrev pub SingleAnswer : (leaf : ℕ) (single : List ℕ) (p w : ℕ) → Type 0
-  SingleAnswer leaf single p w = (bytes ends t : List ℕ) (e attributes : ℕ) → SchemaPasses (length ends) s → AttributeWord bytes ends s t e attributes p leaf
-      → Below (SingleWord bytes ends s t e attributes) single p → SingleWord bytes ends s t e attributes p w
+-- from the word of an attribute pattern
+abbrev pub SingleAnswer : (s : List ℕ) (leaf : ℕ) (single : List ℕ) (p w : ℕ) → Type 0
+SingleAnswer s leaf single p w = (bytes ends t : List ℕ) (e attributes : ℕ) → SchemaPasses (length ends) s → AttributeWord bytes ends s t e attributes p leaf
+    → AtOperands s (SingleWord bytes ends s t e attributes) single p → SingleWord bytes ends s t e attributes p w

@@ -6,6 +6,7 @@ use mathlib.Core.List.{List, [], _∷_}
 use mathlib.Core.Logic.{_↔_}
 use lib.ListN.{getD}
 use lib.Dec.{ltb}
+use Rattle.schema.specs.Relations.{Occurs}
 use Rattle.schema.specs.Rows.{rowsOf}
 use Rattle.schema.specs.Views.{Pattern, empty, notAllowed, text, dataAll, dataExcept, value, attribute, ref, oneOrMore, choice, group, interleave, noPattern, patternOf}
 use Rattle.sets.specs.Bits.{bit}
@@ -83,9 +84,24 @@ module _ (bytes ends s t : List ℕ) where
   abbrev pub SingleWord : (e attributes p w : ℕ) → Type 0
   SingleWord e attributes p w = (x : ℕ) → x < attributes → Flat L (patternOf s p) → (bit w x ≡ true) ↔ Match L (NotMatchBy L (rowsOf s)) (only (attributeRow e x)) [] (patternOf s p)
 
--- the words of the rows below n, for an element e with so many attributes whose items are the first so many of it
-pub record Marked (bytes ends s t : List ℕ) (e attributes : ℕ) (it : ℕ → Item) (items : ℕ) (marks named taken single : List ℕ) (n : ℕ) : Type 0 where
-  pub leaf : (p : ℕ) → p < n → LeafWord bytes ends s t e attributes it items p (getD marks p 0)
-  pub names : (p : ℕ) → p < n → NamedWord bytes ends s t e attributes p (getD named p 0)
-  pub takers : (p : ℕ) → p < n → TakenWord bytes ends s t it items p (getD taken p 0)
-  pub singles : (p : ℕ) → p < n → SingleWord bytes ends s t e attributes p (getD single p 0)
+-- for an element e with so many attributes, whose items are the first so many of it
+module _ (bytes ends s t : List ℕ) (e attributes : ℕ) (it : ℕ → Item) (items : ℕ) where
+  -- the words of row p are right
+  pub record RowMarked (marks named taken single : List ℕ) (p : ℕ) : Type 0 where
+    pub leaf : LeafWord bytes ends s t e attributes it items p (getD marks p 0)
+    pub names : NamedWord bytes ends s t e attributes p (getD named p 0)
+    pub takers : TakenWord bytes ends s t it items p (getD taken p 0)
+    pub singles : SingleWord bytes ends s t e attributes p (getD single p 0)
+
+  -- and so are those of every row that occurs in the pattern at row p
+  pub record PatternMarked (marks named taken single : List ℕ) (p : ℕ) : Type 0 where
+    pub rows : (q : ℕ) → Occurs s q p → RowMarked marks named taken single q
+
+  -- from the tables before to those after, a row that is marked stays so
+  pub record StayMarked (marks₀ named₀ taken₀ single₀ marks named taken single : List ℕ) : Type 0 where
+    pub stays : (q : ℕ) → RowMarked marks₀ named₀ taken₀ single₀ q → RowMarked marks named taken single q
+
+  -- the pattern at row p is marked besides
+  pub record Marking (marks₀ named₀ taken₀ single₀ marks named taken single : List ℕ) (p : ℕ) : Type 0 where
+    pub kept : StayMarked marks₀ named₀ taken₀ single₀ marks named taken single
+    pub pattern : PatternMarked marks named taken single p

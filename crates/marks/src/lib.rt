@@ -8,12 +8,10 @@ ghost use lib.Bits.{bitOr};
 ghost use lib.Dec.{eqb};
 ghost use lib.ListN.{length, getD};
 ghost use Rattle.schema.specs.Rows.{rowsOf, kindOf, aOf, bOf};
-ghost use Rattle.schema.specs.RowRule.{maxRows};
 ghost use Rattle.instance.specs.Width.{maxWidth};
-ghost use Rattle.marks.specs.Marks.{attributeRow};
-ghost use Rattle.marks.specs.Answers.{Limits, LeafAnswer, NamedAnswer, TakenAnswer, SingleAnswer, LeavesBelow, NamedBelow, TakenBelow, SingleBelow};
+ghost use Rattle.marks.specs.Answers.{Room, LeafAnswer, NamedAnswer, TakenAnswer, SingleAnswer, RowAnswer, SmallerAnswer, OperandsAnswer, PatternAnswer, firstOperand, secondOperand};
 ghost use Rattle.marks.specs.Given.{itemAt, Given};
-ghost use Rattle.marks.specs.Marks.{Marked};
+ghost use Rattle.marks.specs.Marks.{attributeRow, Marking};
 ghost use Rattle.marks.specs.Tests.{hasName, valueFits, stringAlone, elementPaired, elementNamed, attributeNamed, attributeFits, Collects, joinedBy};
 
 // A row of the table of strings alone, and one of the table of pairs, has so many entries.
@@ -257,8 +255,8 @@ fn single_word(schema: &[u32], leaf: u64, single: &[u64], p: u32) -> u64
     }
 }
 
-// The words of the leaves.
-fn mark_leaves(
+// The words of row p, from those of its operands.
+fn mark_row(
     schema: &[u32],
     instance: &[u32],
     alone: &[u8],
@@ -269,18 +267,81 @@ fn mark_leaves(
     attributes: u32,
     items: &[u32],
     texts: u64,
+    p: u32,
     marks: &mut [u64],
+    named: &mut [u64],
+    taken: &mut [u64],
+    single: &mut [u64],
 )
-    requires { ⌜ Limits (now schema) (now items) attributes ⌝ }
-    ensures { λ _. ⌜ (rowsOf (now (schema .entry)) ≤ length (now (marks .entry)) → LeavesBelow (now (schema .entry)) (now (instance .entry)) (now (alone .entry)) (now (nothing .entry)) (now (blank .entry)) (now (pairs .entry)) (now (items .entry)) e attributes texts (now (marks .exit)) (rowsOf (now (schema .entry)))) ⌝ }
+    requires { ⌜ Room (now items) (now marks) (now named) (now taken) (now single) attributes p ⌝ }
+    ensures { λ _. ⌜ RowAnswer (now (schema .entry)) (now (instance .entry)) (now (alone .entry)) (now (nothing .entry)) (now (blank .entry)) (now (pairs .entry)) (now (items .entry)) e attributes texts (now (marks .entry)) (now (named .entry)) (now (taken .entry)) (now (single .entry)) (now (marks .exit)) (now (named .exit)) (now (taken .exit)) (now (single .exit)) p ⌝ }
 {
-    let rows = schema.len() / 3;
-    if marks.len() < rows {
-        return;
+    let leaf = leaf_word(
+        schema,
+        instance,
+        alone,
+        nothing,
+        blank,
+        pairs,
+        e,
+        attributes,
+        items,
+        texts,
+        p,
+    );
+    let name = named_word(schema, instance, e, attributes, named, p);
+    let take = taken_word(schema, instance, items, texts, taken, p);
+    let only = single_word(schema, leaf, single, p);
+    marks[p as usize] = leaf;
+    named[p as usize] = name;
+    taken[p as usize] = take;
+    single[p as usize] = only;
+}
+
+// The first operand of row p; p itself stands for none.
+fn first_operand(schema: &[u32], p: u32) -> u32
+    ensures { λ r. ⌜ r ≡ firstOperand (now (schema .entry)) p ⌝ }
+{
+    match schema::kind(schema, p) {
+        9..=12 => schema::field_a(schema, p),
+        _ => p,
     }
-    let mut p = 0;
-    while p < rows {
-        let w = leaf_word(
+}
+
+// The second operand of row p; p itself stands for none.
+fn second_operand(schema: &[u32], p: u32) -> u32
+    ensures { λ r. ⌜ r ≡ secondOperand (now (schema .entry)) p ⌝ }
+{
+    match schema::kind(schema, p) {
+        10..=12 => schema::field_b(schema, p),
+        _ => p,
+    }
+}
+
+// The words of the rows in the pattern at row q, if that is smaller than p.
+fn mark_smaller(
+    schema: &[u32],
+    instance: &[u32],
+    alone: &[u8],
+    nothing: &[u8],
+    blank: &[u8],
+    pairs: &[u8],
+    e: u32,
+    attributes: u32,
+    items: &[u32],
+    texts: u64,
+    q: u32,
+    p: u32,
+    marks: &mut [u64],
+    named: &mut [u64],
+    taken: &mut [u64],
+    single: &mut [u64],
+)
+    requires { ⌜ Room (now items) (now marks) (now named) (now taken) (now single) attributes p ⌝ }
+    ensures { λ _. ⌜ SmallerAnswer (now (schema .entry)) (now (instance .entry)) (now (alone .entry)) (now (nothing .entry)) (now (blank .entry)) (now (pairs .entry)) (now (items .entry)) e attributes texts (now (marks .entry)) (now (named .entry)) (now (taken .entry)) (now (single .entry)) (now (marks .exit)) (now (named .exit)) (now (taken .exit)) (now (single .exit)) q p ⌝ }
+{
+    if q < p {
+        mark_pattern(
             schema,
             instance,
             alone,
@@ -291,82 +352,170 @@ fn mark_leaves(
             attributes,
             items,
             texts,
-            p as u32,
+            q,
+            marks,
+            named,
+            taken,
+            single,
         );
-        marks[p] = w;
-        p += 1;
     }
 }
 
-// The words of the attributes that are named; those of the operands, which are smaller rows, are there before.
-fn mark_named(schema: &[u32], instance: &[u32], e: u32, attributes: u32, named: &mut [u64])
-    requires { ⌜ (rowsOf (now schema) ≤ maxRows) × (attributes ≤ maxWidth) ⌝ }
-    ensures { λ _. ⌜ (rowsOf (now (schema .entry)) ≤ length (now (named .entry)) → NamedBelow (now (schema .entry)) (now (instance .entry)) e attributes (now (named .exit)) (rowsOf (now (schema .entry)))) ⌝ }
+// The words of the rows in the operands of row p.
+fn mark_operands(
+    schema: &[u32],
+    instance: &[u32],
+    alone: &[u8],
+    nothing: &[u8],
+    blank: &[u8],
+    pairs: &[u8],
+    e: u32,
+    attributes: u32,
+    items: &[u32],
+    texts: u64,
+    p: u32,
+    marks: &mut [u64],
+    named: &mut [u64],
+    taken: &mut [u64],
+    single: &mut [u64],
+)
+    requires { ⌜ Room (now items) (now marks) (now named) (now taken) (now single) attributes p ⌝ }
+    ensures { λ _. ⌜ OperandsAnswer (now (schema .entry)) (now (instance .entry)) (now (alone .entry)) (now (nothing .entry)) (now (blank .entry)) (now (pairs .entry)) (now (items .entry)) e attributes texts (now (marks .entry)) (now (named .entry)) (now (taken .entry)) (now (single .entry)) (now (marks .exit)) (now (named .exit)) (now (taken .exit)) (now (single .exit)) p ⌝ }
 {
-    let rows = schema.len() / 3;
-    if named.len() < rows {
-        return;
-    }
-    let mut p = 0;
-    while p < rows {
-        let w = named_word(schema, instance, e, attributes, named, p as u32);
-        named[p] = w;
-        p += 1;
-    }
+    let first = first_operand(schema, p);
+    let second = second_operand(schema, p);
+    mark_smaller(
+        schema,
+        instance,
+        alone,
+        nothing,
+        blank,
+        pairs,
+        e,
+        attributes,
+        items,
+        texts,
+        first,
+        p,
+        marks,
+        named,
+        taken,
+        single,
+    );
+    mark_smaller(
+        schema,
+        instance,
+        alone,
+        nothing,
+        blank,
+        pairs,
+        e,
+        attributes,
+        items,
+        texts,
+        second,
+        p,
+        marks,
+        named,
+        taken,
+        single,
+    );
 }
 
-// The words of the items that are taken.
-fn mark_taken(schema: &[u32], instance: &[u32], items: &[u32], texts: u64, taken: &mut [u64])
-    requires { ⌜ (rowsOf (now schema) ≤ maxRows) × (length (now items) ≤ maxWidth) ⌝ }
-    ensures { λ _. ⌜ (rowsOf (now (schema .entry)) ≤ length (now (taken .entry)) → TakenBelow (now (schema .entry)) (now (instance .entry)) (now (items .entry)) texts (now (taken .exit)) (rowsOf (now (schema .entry)))) ⌝ }
+// The words of the rows in the pattern at row p: those of its operands come first.
+fn mark_pattern(
+    schema: &[u32],
+    instance: &[u32],
+    alone: &[u8],
+    nothing: &[u8],
+    blank: &[u8],
+    pairs: &[u8],
+    e: u32,
+    attributes: u32,
+    items: &[u32],
+    texts: u64,
+    p: u32,
+    marks: &mut [u64],
+    named: &mut [u64],
+    taken: &mut [u64],
+    single: &mut [u64],
+)
+    requires { ⌜ Room (now items) (now marks) (now named) (now taken) (now single) attributes p ⌝ }
+    ensures { λ _. ⌜ PatternAnswer (now (schema .entry)) (now (instance .entry)) (now (alone .entry)) (now (nothing .entry)) (now (blank .entry)) (now (pairs .entry)) (now (items .entry)) e attributes texts (now (marks .entry)) (now (named .entry)) (now (taken .entry)) (now (single .entry)) (now (marks .exit)) (now (named .exit)) (now (taken .exit)) (now (single .exit)) p ⌝ }
 {
-    let rows = schema.len() / 3;
-    if taken.len() < rows {
-        return;
-    }
-    let mut p = 0;
-    while p < rows {
-        let w = taken_word(schema, instance, items, texts, taken, p as u32);
-        taken[p] = w;
-        p += 1;
-    }
+    mark_operands(
+        schema,
+        instance,
+        alone,
+        nothing,
+        blank,
+        pairs,
+        e,
+        attributes,
+        items,
+        texts,
+        p,
+        marks,
+        named,
+        taken,
+        single,
+    );
+    mark_row(
+        schema,
+        instance,
+        alone,
+        nothing,
+        blank,
+        pairs,
+        e,
+        attributes,
+        items,
+        texts,
+        p,
+        marks,
+        named,
+        taken,
+        single,
+    );
 }
 
-// The words of the attributes that match alone, from the words of the leaves.
-fn mark_single(schema: &[u32], marks: &[u64], single: &mut [u64])
-    requires { ⌜ rowsOf (now schema) ≤ maxRows ⌝ }
-    ensures { λ _. ⌜ (rowsOf (now (schema .entry)) ≤ length (now (single .entry)) → SingleBelow (now (schema .entry)) (now (marks .entry)) (now (single .exit)) (rowsOf (now (schema .entry)))) ⌝ }
+// Whether there are as many attributes and items as there may be, and each table has row p.
+fn has_room(
+    attributes: u32,
+    items: &[u32],
+    p: u32,
+    marks: &[u64],
+    named: &[u64],
+    taken: &[u64],
+    single: &[u64],
+) -> bool
+    ensures { λ r. ⌜ (r ≡ true) ↔ Room (now (items .entry)) (now (marks .entry)) (now (named .entry)) (now (taken .entry)) (now (single .entry)) attributes p ⌝ }
 {
-    let rows = schema.len() / 3;
-    if single.len() < rows {
-        return;
-    }
-    let mut p = 0;
-    while p < rows {
-        let w = single_word(schema, sets::word(marks, p as u32), single, p as u32);
-        single[p] = w;
-        p += 1;
-    }
-}
-
-// Whether there are as many rows, attributes and items as there may be.
-fn in_limits(schema: &[u32], attributes: u32, items: &[u32]) -> bool
-    ensures { λ r. ⌜ (r ≡ true) ↔ Limits (now (schema .entry)) (now (items .entry)) attributes ⌝ }
-{
-    if schema::MAX_ROWS < schema.len() / 3 {
-        return false;
-    }
+    let row = p as usize;
     if instance::MAX_WIDTH < attributes {
         return false;
     }
     if (instance::MAX_WIDTH as usize) < items.len() {
         return false;
     }
+    if marks.len() <= row {
+        return false;
+    }
+    if named.len() <= row {
+        return false;
+    }
+    if taken.len() <= row {
+        return false;
+    }
+    if single.len() <= row {
+        return false;
+    }
     true
 }
 
-// The words of each row of a schema for the element at row e, with so many attributes and with these items, of which those in texts are strings by their numbers and the others elements by
-// their rows. A table without room for every row is left as it is, and so are all where there are more rows, attributes or items than there may be.
+// The words of each row in the pattern at row p of a schema, for the element at row e, with so many attributes and with these items, of which those in texts are strings by their numbers and
+// the others elements by their rows. The words of other rows may change, but those that are right stay so. Nothing is written where a table has no row p, or where there are more attributes
+// or items than there may be.
 pub fn mark(
     schema: &[u32],
     instance: &[u32],
@@ -378,17 +527,18 @@ pub fn mark(
     attributes: u32,
     items: &[u32],
     texts: u64,
+    p: u32,
     marks: &mut [u64],
     named: &mut [u64],
     taken: &mut [u64],
     single: &mut [u64],
 )
-    ensures { λ _. ⌜ ((bytes ends : List ℕ) → Given bytes ends (now (schema .entry)) (now (instance .entry)) (now (alone .entry)) (now (nothing .entry)) (now (blank .entry)) (now (pairs .entry)) (now (items .entry)) e attributes texts → rowsOf (now (schema .entry)) ≤ length (now (marks .entry)) → rowsOf (now (schema .entry)) ≤ length (now (named .entry)) → rowsOf (now (schema .entry)) ≤ length (now (taken .entry)) → rowsOf (now (schema .entry)) ≤ length (now (single .entry)) → Marked bytes ends (now (schema .entry)) (now (instance .entry)) e attributes (itemAt bytes ends (now (items .entry)) texts) (length (now (items .entry))) (now (marks .exit)) (now (named .exit)) (now (taken .exit)) (now (single .exit)) (rowsOf (now (schema .entry)))) ⌝ }
+    ensures { λ _. ⌜ ((bytes ends : List ℕ) → Given bytes ends (now (schema .entry)) (now (instance .entry)) (now (alone .entry)) (now (nothing .entry)) (now (blank .entry)) (now (pairs .entry)) (now (items .entry)) e attributes texts → p < rowsOf (now (schema .entry)) → rowsOf (now (schema .entry)) ≤ length (now (marks .entry)) → rowsOf (now (schema .entry)) ≤ length (now (named .entry)) → rowsOf (now (schema .entry)) ≤ length (now (taken .entry)) → rowsOf (now (schema .entry)) ≤ length (now (single .entry)) → Marking bytes ends (now (schema .entry)) (now (instance .entry)) e attributes (itemAt bytes ends (now (items .entry)) texts) (length (now (items .entry))) (now (marks .entry)) (now (named .entry)) (now (taken .entry)) (now (single .entry)) (now (marks .exit)) (now (named .exit)) (now (taken .exit)) (now (single .exit)) p) ⌝ }
 {
-    if !in_limits(schema, attributes, items) {
+    if !has_room(attributes, items, p, marks, named, taken, single) {
         return;
     }
-    mark_leaves(
+    mark_pattern(
         schema,
         instance,
         alone,
@@ -399,9 +549,10 @@ pub fn mark(
         attributes,
         items,
         texts,
+        p,
         marks,
+        named,
+        taken,
+        single,
     );
-    mark_named(schema, instance, e, attributes, named);
-    mark_taken(schema, instance, items, texts, taken);
-    mark_single(schema, marks, single);
 }

@@ -27,9 +27,9 @@ use Rattle.rules.proofs.Positions.{run-empty, run-single, run-strings}
 use Rattle.rules.proofs.Reach.{takesAny}
 use Rattle.rules.proofs.Spans.{Span, ItemsOnly, OnePaired, span-empty, span-text, span-value, span-dataAll, span-dataExcept, span-ref, span-attribute, span-notAllowed, span-noPattern}
 use Rattle.marks.specs.Marks.{attributeRow, attributesIn, IsString, IsPaired, Takes, TakesAttribute}
-use Rattle.matching.specs.Setting.{Setting, Asked, Related}
+use Rattle.matching.specs.Setting.{Setting, Asked, Related, Covered}
 use Rattle.matching.specs.Parts.{Where, OneIn}
-use Rattle.matching.proofs.Shares.{numberOf, in-row, row-in, no-attributes, attributes-none}
+use Rattle.matching.proofs.Shares.{numberOf, in-row, row-in, no-attributes, attributes-none, row-covered}
 
 -- an item that is as asked, alone
 abbrev OneItem : (Item → Type 0) → List Item → Type 0
@@ -58,7 +58,7 @@ module _ (L : Lookups) where
   is-string (element e) f = f e refl
   is-string (string s) f = tt
 
-module _ {s marks named taken single : List ℕ} (S : Setting s marks named taken single) (m : ℕ) {a k p : ℕ} (asked : Asked S a k) (row : p < rowsOf s) (w : List ℕ) where
+module _ {s marks named taken single : List ℕ} (S : Setting s) (m : ℕ) {a k p : ℕ} (asked : Asked S a k) (covered : Covered S marks named taken single p) (w : List ℕ) where
   abbrev L : Lookups
   L = lookups (S .bytes) (S .ends) s (S .t)
 
@@ -108,7 +108,7 @@ module _ {s marks named taken single : List ℕ} (S : Setting s marks named take
   related-text hk hm e = without-attributes (λ l. hasElement l ≡ false) (λ i j. span-text L N A (S .it) K p i j e) (λ i j. (to i j, from i j))
     where
       string-at : (x : ℕ) → K x ≡ true → (bit mark x ≡ true) ↔ IsString L (λ s. Unit {0}) (S .it x)
-      string-at x h = rw e at (S .marked .leaf p row .leaves x (asked .of-items x h) (ap takesAny e))
+      string-at x h = rw e at (row-covered S covered .leaf .leaves x (asked .of-items x h) (ap takesAny e))
 
       stop : (x : ℕ) → bit (bitAnd k (2 ^ 64 - 1 - mark)) x ≡ K x && not (bit mark x)
       stop x = bit-without 64 k mark x hk hm
@@ -161,7 +161,7 @@ module _ {s marks named taken single : List ℕ} (S : Setting s marks named take
           }
 
   takes-at : takesAny (patternOf s p) ≡ true → (x : ℕ) → K x ≡ true → (bit mark x ≡ true) ↔ Takes L (patternOf s p) (S .it x)
-  takes-at any x h = S .marked .leaf p row .leaves x (asked .of-items x h) any
+  takes-at any x h = row-covered S covered .leaf .leaves x (asked .of-items x h) any
 
   pub related-dataAll : {t : ℕ} → patternOf s p ≡ dataAll t → Is w (Where (a ≡ 0) (Single m k mark)) → Is w (Related S m a k p)
   related-dataAll e = one-item (One (λ s. Unit {0})) (IsString L (λ s. Unit {0})) (one-string L (λ s. Unit {0})) (λ x h. rw e at (takes-at (ap takesAny e) x h)) (λ i j. span-dataAll L N A (S .it) K p i j e)
@@ -181,7 +181,7 @@ module _ {s marks named taken single : List ℕ} (S : Setting s marks named take
   related-attribute {nc} {q} e is = is-map is (λ i j. (to i j, from i j))
     where
       taken-at : (x : ℕ) → bit a x ≡ true → (bit mark x ≡ true) ↔ TakesAttribute L nc q (attributeRow (S .element) x)
-      taken-at x h = S .marked .leaf p row .attribute-leaves nc q x e (asked .of-attributes x h)
+      taken-at x h = row-covered S covered .leaf .attribute-leaves nc q x e (asked .of-attributes x h)
 
       to : (i j : ℕ) → Where (OneIn a mark) (Gap m k) i j → Related S m a k p i j
       to i j r =

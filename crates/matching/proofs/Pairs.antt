@@ -23,8 +23,8 @@ use Rattle.rules.proofs.Reach.{Reaches, namesAttribute, takes}
 use Rattle.rules.proofs.Restricted.{Restricted}
 use Rattle.rules.proofs.Spans.{Span, span-choice}
 use Rattle.marks.specs.Marks.{attributesIn}
-use Rattle.matching.specs.Setting.{Setting, Asked, Related}
-use Rattle.matching.proofs.Shares.{bits-both, bits-without, numberOf, hasRow, in-row, attributes-both, attributes-without}
+use Rattle.matching.specs.Setting.{Setting, Asked, Related, Covered}
+use Rattle.matching.proofs.Shares.{bits-both, bits-without, numberOf, hasRow, in-row, attributes-both, attributes-without, row-covered}
 
 -- words that hold the relations that a relation is made of
 module _ {w w₁ w₂ : List ℕ} {R R₁ R₂ : Relation} (is₁ : Is w₁ R₁) (is₂ : Is w₂ R₂) where
@@ -40,7 +40,7 @@ module _ {w w₁ w₂ : List ℕ} {R R₁ R₂ : Relation} (is₁ : Is w₁ R₁
   is-then is same =
       is-map (is-map is (λ i j. (λ b. (b .0, is₁ .sound i (b .0) (b .1), is₂ .sound (b .0) j (b .2)), λ b. (b .0, is₁ .complete i (b .0) (b .1), is₂ .complete (b .0) j (b .2))))) same
 
-module _ {s marks named taken single : List ℕ} (S : Setting s marks named taken single) (m : ℕ) {a k : ℕ} (asked : Asked S a k) (p p₁ p₂ : ℕ) where
+module _ {s : List ℕ} (S : Setting s) (m : ℕ) {a k : ℕ} (asked : Asked S a k) (p p₁ p₂ : ℕ) where
   abbrev L : Lookups
   L = lookups (S .bytes) (S .ends) s (S .t)
 
@@ -64,7 +64,7 @@ module _ {s marks named taken single : List ℕ} (S : Setting s marks named take
       from i j r = ⊎-map (λ x. (r .0, x)) (λ x. (r .0, x)) (span-choice L N A (S .it) (bit k) p i j e .0 (r .1))
 
   -- the word of row p₁ tells which attributes and items are for the first operand
-  module _ (row : p₁ < rowsOf s) where
+  module _ {marks named taken single : List ℕ} (covered : Covered S marks named taken single p₁) where
     abbrev n : ℕ
     n = getD named p₁ 0
 
@@ -78,10 +78,10 @@ module _ {s marks named taken single : List ℕ} (S : Setting s marks named take
     names r h =
         let z = in-row (S .element) a r h in
         subst (λ (x : ℕ). (bit n (numberOf (S .element) r) ≡ true) ↔ Reaches L (namesAttribute L x) (L .pattern p₁)) (z .0)
-        (S .marked .names p₁ row (numberOf (S .element) r) (asked .of-attributes (numberOf (S .element) r) (z .1)))
+        (row-covered S covered .names (numberOf (S .element) r) (asked .of-attributes (numberOf (S .element) r) (z .1)))
 
     takers : Tells (bit t) (bit k) (λ x. Reaches L (takes L (S .it x)) (L .pattern p₁))
-    takers x h = S .marked .takers p₁ row x (asked .of-items x h)
+    takers x h = row-covered S covered .takers x (asked .of-items x h)
 
     module _ (ha : a < 2 ^ 64) (hn : n < 2 ^ 64) where
       -- the relations of the operands as spans

@@ -25,9 +25,9 @@ use Rattle.rules.proofs.Repeats.{Repeated, span-oneOrMore, span-oneOrMore-attri
 use Rattle.rules.proofs.Restricted.{Restricted}
 use Rattle.rules.proofs.Spans.{Span}
 use Rattle.marks.specs.Marks.{attributeRow, attributesIn}
-use Rattle.matching.specs.Setting.{Setting, Asked, Related}
+use Rattle.matching.specs.Setting.{Setting, Asked, Related, Covered}
 use Rattle.matching.specs.Parts.{Within, Repeats}
-use Rattle.matching.proofs.Shares.{numberOf, in-row, row-in, no-attributes}
+use Rattle.matching.proofs.Shares.{numberOf, in-row, row-in, no-attributes, row-covered}
 
 plus-map : {R T : Relation} → ((i j : ℕ) → R i j → T i j) → {i j : ℕ} → Plus R i j → Plus T i j
 plus-map f (once {i} {j} r) = once (f i j r)
@@ -53,7 +53,7 @@ repeats-map : {R T : Relation} (m a k alone : ℕ) → ((i j : ℕ) → R i j �
 repeats-map m a k alone f i j (h, inl q) = (h, inl (plus-map f q))
 repeats-map m a k alone f i j (h, inr g) = (h, inr g)
 
-module _ {s marks named taken single : List ℕ} (S : Setting s marks named taken single) (m : ℕ) {a k : ℕ} (asked : Asked S a k) (p q : ℕ) (row : q < rowsOf s) (e : patternOf s p ≡ oneOrMore q) where
+module _ {s marks named taken single : List ℕ} (S : Setting s) (m : ℕ) {a k : ℕ} (asked : Asked S a k) (p q : ℕ) (covered : Covered S marks named taken single q) (e : patternOf s p ≡ oneOrMore q) where
   abbrev L : Lookups
   L = lookups (S .bytes) (S .ends) s (S .t)
 
@@ -86,7 +86,7 @@ module _ {s marks named taken single : List ℕ} (S : Setting s marks named take
   R = restricted (S .passes) (S .bytes) (S .ends) (S .t)
 
   single-at : (x : ℕ) → bit a x ≡ true → (bit alone x ≡ true) ↔ Match L N (only (attributeRow (S .element) x)) [] (L .pattern q)
-  single-at x h = S .marked .singles q row x (asked .of-attributes x h) (R .repeats-flat p q e)
+  single-at x h = row-covered S covered .singles x (asked .of-attributes x h) (R .repeats-flat p q e)
 
   no-set : a ≡ 0 → A ≡ none
   no-set z = ap (attributesIn (S .element)) z ∙ no-attributes (S .element)

@@ -1,21 +1,25 @@
--- Attributes and items of an element as words: no member, one member, and the part that a word has or has not.
+-- Attributes and items of an element as words: no member, one member, and the part that a word has or has not; and the rows that the tables cover.
 use Prim.Native.Nat.{ℕ, suc, _+_, _-_, _^_, _<_}
-use mathlib.Core.Path.{_≡_, sym, ap, _∙_, fun-ext}
+use mathlib.Core.Path.{_≡_, sym, ap, _∙_, fun-ext, subst}
 use mathlib.Core.Bool.{Bool, true, not, _&&_, and-assoc, and-false}
 use mathlib.Core.List.{List}
 use native.Mathlib.Omega.{arith}
 use lib.Bits.{bitAnd}
 use lib.Dec.{ltb}
 use borrow.Author.Tests.{ltb-true, lt-ltb}
+use Rattle.schema.specs.Relations.{itself}
+use Rattle.schema.specs.Views.{Pattern, patternOf}
 use Rattle.sets.specs.Bits.{bit}
 use Rattle.sets.proofs.Bits.{bit-and, bit-without, bit-none, bit-empty}
 use Rattle.rules.specs.Items.{Attributes, none}
 use Rattle.rules.specs.Job.{lookups}
 use Rattle.rules.proofs.Booleans.{_∩_, _∖_, and-left, and-right, and-both}
 use Rattle.rules.proofs.Occurrences.{clean-part}
+use Rattle.rules.proofs.Reach.{Operand}
 use Rattle.rules.proofs.Repeats.{distinct-part}
-use Rattle.marks.specs.Marks.{attributeRow, attributesIn}
-use Rattle.matching.specs.Setting.{Setting, Asked}
+use Rattle.rules.proofs.RowPatterns.{operand-occurs}
+use Rattle.marks.specs.Marks.{attributeRow, attributesIn, RowMarked}
+use Rattle.matching.specs.Setting.{Setting, Asked, Covered}
 
 -- ---- the members of a word
 
@@ -57,9 +61,18 @@ module _ (e : ℕ) where
   pub attributes-none : (a : ℕ) → attributesIn e a ≡ none → a ≡ 0
   attributes-none a f = bit-empty a .0 (λ x. sym (row-in a x) ∙ ap (λ (A : Attributes). A (attributeRow e x)) f)
 
+-- ---- the rows that the tables cover
+
+module _ {s : List ℕ} (S : Setting s) {marks named taken single : List ℕ} {p : ℕ} (covered : Covered S marks named taken single p) where
+  pub row-covered : RowMarked (S .bytes) (S .ends) s (S .t) (S .element) (S .attributes) (S .it) (S .items) marks named taken single p
+  row-covered = covered .rows p itself
+
+  pub operand-covered : {q : ℕ} {x : Pattern} → patternOf s p ≡ x → Operand q x → Covered S marks named taken single q
+  operand-covered {q} e o = record { rows = λ r i. covered .rows r (operand-occurs (S .passes .rows) (subst (Operand q) (sym e) o) i) }
+
 -- ---- what is asked of a and k holds of their parts
 
-module _ {s marks named taken single : List ℕ} (S : Setting s marks named taken single) {a k : ℕ} (asked : Asked S a k) where
+module _ {s : List ℕ} (S : Setting s) {a k : ℕ} (asked : Asked S a k) where
   pub asked-part : {b l : ℕ} → ((x : ℕ) → bit b x ≡ true → bit a x ≡ true) → ((x : ℕ) → bit l x ≡ true → bit k x ≡ true) → Asked S b l
   asked-part {b} {l} f g = record {
     of-attributes = λ x h. asked .of-attributes x (f x h);

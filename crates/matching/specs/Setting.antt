@@ -15,10 +15,10 @@ use Rattle.rules.specs.Job.{lookups}
 use Rattle.rules.proofs.Occurrences.{CleanAt}
 use Rattle.rules.proofs.Repeats.{Distinct}
 use Rattle.rules.proofs.Spans.{Span}
-use Rattle.marks.specs.Marks.{attributesIn, Marked}
+use Rattle.marks.specs.Marks.{attributesIn, PatternMarked}
 
--- the tables hold, row by row, what the patterns of a schema that passes do with the attributes and items of an element
-pub record Setting (s marks named taken single : List ℕ) : Type 0 where
+-- an element, for a schema that passes: its attributes and items
+pub record Setting (s : List ℕ) : Type 0 where
   pub bytes : List ℕ
   pub ends : List ℕ
   pub t : List ℕ
@@ -27,9 +27,8 @@ pub record Setting (s marks named taken single : List ℕ) : Type 0 where
   pub attributes : ℕ
   pub it : ℕ → Item
   pub items : ℕ
-  pub marked : Marked bytes ends s t element attributes it items marks named taken single (rowsOf s)
 
-module _ {s marks named taken single : List ℕ} (S : Setting s marks named taken single) where
+module _ {s : List ℕ} (S : Setting s) where
   -- the attributes a and the items k are of the element; no two of the attributes have one name, and no whitespace stands beside an element
   pub record Asked (a k : ℕ) : Type 0 where
     pub of-attributes : (x : ℕ) → bit a x ≡ true → x < S .attributes
@@ -41,6 +40,10 @@ module _ {s marks named taken single : List ℕ} (S : Setting s marks named take
   abbrev pub Related : (m a k p : ℕ) → Relation
   Related m a k p i j = (j < m) × Span (lookups (S .bytes) (S .ends) s (S .t)) (NotMatchBy (lookups (S .bytes) (S .ends) s (S .t)) (rowsOf s)) (attributesIn (S .element) a) (S .it) (bit k) p i j
 
--- the words hold the relation of row p in every such setting
+  -- the tables hold, for every row that occurs in the pattern at row p, what that does with the attributes and items of the element
+  abbrev pub Covered : (marks named taken single : List ℕ) (p : ℕ) → Type 0
+  Covered = PatternMarked (S .bytes) (S .ends) s (S .t) (S .element) (S .attributes) (S .it) (S .items)
+
+-- the words hold the relation of row p in every setting in which the tables cover it
 abbrev pub Answers : (s marks named taken single : List ℕ) (m a k p : ℕ) → List ℕ → Type 0
-Answers s marks named taken single m a k p words = (S : Setting s marks named taken single) → Asked S a k → p < rowsOf s → Is words (Related S m a k p)
+Answers s marks named taken single m a k p words = (S : Setting s) → Asked S a k → Covered S marks named taken single p → Is words (Related S m a k p)

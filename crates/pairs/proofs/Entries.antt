@@ -1,60 +1,84 @@
 -- The entries of one element, and the table from the last row to the first.
-use Prim.Native.Nat.{ℕ, suc, _+_, _*_, _≤_, _<_}
+use Prim.Native.Nat.{ℕ, _+_, _*_, _≤_, _<_}
 use mathlib.Core.Path.{_≡_, refl, sym, _∙_, ap}
 use mathlib.Core.Bool.{Bool, true, false, cond, true≢false}
 use mathlib.Core.List.{List}
-use mathlib.Core.Logic.{_↔_, _⊎_, inl, inr, ⊎-elim, ⊎-map, _≢_}
+use mathlib.Core.Logic.{_↔_, _≢_}
 use native.Mathlib.Omega.{arith}
 use native.Mathlib.Decide.{ℕ-discrete}
 use lib.Dec.{eqb}
 use lib.ListN.{length, getD, take, set, length-set}
-use lib.Seq.{getD-take, getD-set-same, length-take-le}
+use lib.Seq.{getD-take, getD-set-same, getD-set-other, length-take-le}
+use borrow.Author.Count.{below-more}
 use borrow.Author.Tests.{eq-eqb, eqb-true}
 use Rattle.tables.specs.Outputs.{zeros}
 use Rattle.tables.proofs.Fill.{getD-zeros}
 use Rattle.strings.specs.Strings.{at-front}
 use Rattle.strings.proofs.Table.{ends-of, few-strings}
-use Rattle.schema.specs.Rows.{rowsOf, bOf}
+use Rattle.schema.specs.Rows.{rowsOf}
 use Rattle.schema.specs.RowRule.{maxRows}
 use Rattle.schema.proofs.RowLaws.{few-rows, right-size}
+use Rattle.definitions.specs.Definitions.{isDefinition, Definitions}
 use Rattle.instance.specs.Nodes.{element, text, nodesOf, kindOf}
 use Rattle.instance.specs.Width.{maxWidth}
 use Rattle.instance.specs.Elements.{isElement, childrenOf}
 use Rattle.instance.proofs.Elements.{child-later}
 use Rattle.sets.specs.Bits.{bit}
 use Rattle.sets.proofs.Bits.{bit-pow}
-use Rattle.rules.specs.Rules.{NotMatchBy}
-use Rattle.rules.specs.Job.{lookups}
-use Rattle.rules.proofs.Inversion.{Paired}
-use Rattle.marks.specs.Marks.{attributeRow, Marked}
-use Rattle.marks.specs.Given.{itemAt, pairEntry, Given}
+use Rattle.marks.specs.Marks.{attributeRow}
+use Rattle.marks.specs.Given.{pairEntry, Given}
 use Rattle.marks.specs.Tests.{Collects}
-use Rattle.matching.specs.Setting.{Setting, Asked}
 use Rattle.contents.specs.Contents.{Counted, Children, ofKind, Itemized, Contents}
 use Rattle.contents.proofs.AttributeWord.{value-string, few-counted}
 use Rattle.contents.proofs.ItemRuns.{Kind, is-text, is-element, kind-at, child-at, collected-contents}
 use Rattle.alone.specs.Alone.{Filled}
-use Rattle.pairs.specs.Pairs.{IsPair, PairsFrom, TablesPass}
-use Rattle.pairs.specs.Rows.{FitsDefinition, RowKept, RowTold, Shown, RowRight, Filling, Known, isSolid, Ready, StandsFor}
+use Rattle.pairs.specs.Pairs.{IsPair, TablesPass}
+use Rattle.pairs.specs.Rows.{RowKept, RowTold, RowRight, Filling, Known, isSolid, Ready, StandsFor}
 use Rattle.pairs.proofs.Showing.{text-item, mixed-shown, simple-shown, string-known}
 
--- what is told of each definition, where the attributes and items stand for the element
-module _ {bytes ends s t alone nothing blank pairs items marks named taken single : List ℕ} {e attributes texts : ℕ} (g : Given bytes ends s t alone nothing blank pairs items e attributes texts)
-    (m : Marked bytes ends s t e attributes (itemAt bytes ends items texts) (length items) marks named taken single (rowsOf s)) {a k : ℕ} {weak : Bool} (shown : Shown bytes ends s t items e attributes texts a k weak) where
-  abbrev setting : Setting s marks named taken single
-  setting = record { bytes = bytes; ends = ends; t = t; passes = g .passes; element = e; attributes = attributes; it = itemAt bytes ends items texts; items = length items; marked = m }
+-- what the words are made from stays, where only the row of e changes
+pub given-kept : {bytes ends s t alone nothing blank before after items : List ℕ} {e attributes texts : ℕ} → Given bytes ends s t alone nothing blank before items e attributes texts
+    → ((x : ℕ) → x < length items → bit texts x ≡ false → getD items x 0 ≢ e) → RowKept before after e → Given bytes ends s t alone nothing blank after items e attributes texts
+given-kept {items = items} g apart r = record {
+  passes = g .passes;
+  few-strings = g .few-strings;
+  alone-right = g .alone-right;
+  blank-right = g .blank-right;
+  few-attributes = g .few-attributes;
+  few-items = g .few-items;
+  values = g .values;
+  strings = g .strings;
+  elements = λ k d m b i. let few = few-rows (right-size (g .passes .rows)) in rw (r .kept (getD items k 0) d (apart k m b) (omega arith)) (g .elements k d m b i);
+}
 
-  asked : Asked setting a k
-  asked = record { of-attributes = shown .of-attributes; of-items = shown .of-items; distinct = shown .distinct; clean = shown .clean }
+-- the row of e while it is filled
+module _ {bytes ends s t definitions before : List ℕ} {e : ℕ} where
+  pub row-none : RowTold bytes ends s t definitions before before e 0
+  row-none = record { others = record { size = refl; kept = λ x d h l. refl }; told = λ j h. absurd (omega arith); rest = λ d h f. refl }
 
-  pub row-right : {before after : List ℕ} → isElement t e ≡ true → RowTold s t marks named taken single (length items) a k weak before after e (rowsOf s) → RowRight bytes ends s t before after e
-  row-right {before} {after} i r = record { others = r .others; right = λ d h. (λ v. to d (r .told d h setting asked .0 v), λ p. r .told d h setting asked .1 (from d (p .1))) }
+  pub row-more : {now : List ℕ} {n d v : ℕ} → Definitions s definitions (length definitions) → n < length definitions → d ≡ getD definitions n 0 → d < maxRows → e * maxRows + d < length now
+      → (v ≡ 1) ↔ IsPair bytes ends s t e d → RowTold bytes ends s t definitions before now e n → RowTold bytes ends s t definitions before (set now (e * maxRows + d) v) e (n + 1)
+  row-more {now} {n} {d} {v} defs in-list is low l p r = record {
+    others = record {
+      size = length-set now (e * maxRows + d) v ∙ r .others .size;
+      kept = λ x c f m. getD-set-other now (e * maxRows + d) (x * maxRows + c) v 0 (λ z. f (omega arith)) ∙ r .others .kept x c f m;
+    };
+    told = below-more (λ (j : ℕ). (pairEntry (set now (e * maxRows + d) v) e (getD definitions j 0) ≡ 1) ↔ IsPair bytes ends s t e (getD definitions j 0)) n
+        (λ j m. let i = defs .rising j n m in-list in rw (getD-set-other now (e * maxRows + d) (e * maxRows + getD definitions j 0) v 0 (λ z. omega arith)) (r .told j m))
+        (rw (← is) (rw (getD-set-same now (e * maxRows + d) v 0 l) p));
+    rest = λ c m f. getD-set-other now (e * maxRows + d) (e * maxRows + c) v 0 (λ z. f n (omega arith) (omega arith)) ∙ r .rest c m (λ j h. f j (omega arith));
+  }
+
+  -- a row that is no definition is in no pair
+  pub row-right : {after : List ℕ} → rowsOf s ≤ maxRows → Definitions s definitions (length definitions) → ((d : ℕ) → d < maxRows → pairEntry before e d ≡ 0) → RowTold bytes ends s t definitions before after e (length definitions)
+      → RowRight bytes ends s t before after e
+  row-right {after} few defs empty r = record { others = r .others; right = λ d h. go d h (isDefinition s d) refl }
     where
-      to : (d : ℕ) → FitsDefinition setting t (length items) a k weak e d → IsPair bytes ends s t e d
-      to d f = (i, record { defined = f .defined; ordered = shown .ordered; named = f .has-name; content = shown .content (bOf s d) .1 (⊎-map (λ x. x .1) (λ x. (x .0, x .1 .1)) (f .content)) })
-
-      from : (d : ℕ) → Paired (lookups bytes ends s t) (NotMatchBy (lookups bytes ends s t) (rowsOf s)) e d → FitsDefinition setting t (length items) a k weak e d
-      from d p = record { defined = p .defined; has-name = p .named; content = ⊎-map (λ x. (omega arith, x)) (λ x. (x .0, (omega arith, x .1))) (shown .content (bOf s d) .0 (p .content)) }
+      go : (d : ℕ) → d < rowsOf s → (b : Bool) → isDefinition s d ≡ b → (pairEntry after e d ≡ 1) ↔ IsPair bytes ends s t e d
+      go d h true f = let i = defs .every d h f in rw (i .2) at (r .told (i .0) (i .1))
+      go d h false f =
+          let z : pairEntry after e d ≡ 0 = r .rest d (omega arith) (λ j l q. true≢false (sym (defs .defined j l) ∙ ap (isDefinition s) q ∙ f)) ∙ empty d (omega arith) in
+          (λ v. absurd (omega arith), λ p. absurd (true≢false (sym (p .1 .defined) ∙ f)))
 
 module _ {bytes ends s t alone nothing blank pairs : List ℕ} where
   -- before the last row: no entry is asked, and all are 0
@@ -108,12 +132,16 @@ module _ {bytes ends s t alone nothing blank pairs : List ℕ} where
           (λ v. p .0 v .1, λ v. p .1 (r .2, v));
     }
 
-    pub mixed-given : {items : List ℕ} {n texts elements : ℕ} → Contents t e items n texts elements → n ≡ length items → Given bytes ends s t alone nothing blank pairs items e attributes texts
-    mixed-given {items} {n} {texts} {elements} c size = given items texts (let l = c .few in omega arith) (λ k m b. text-item (f .pass) h c k (rw size m) b) (λ k m b. go k (rw size m) b (kind-at c k (rw size m)))
+    -- an element among the items stands at a later row
+    mixed-later : {items : List ℕ} {n texts elements : ℕ} → Contents t e items n texts elements → (k : ℕ) → k < n → bit texts k ≡ false → (e + 1 ≤ getD items k 0) × (getD items k 0 < nodesOf t) × (isElement t (getD items k 0) ≡ true)
+    mixed-later {items} {n} {texts} c k m b = go k m b (kind-at c k m)
       where
         go : (k : ℕ) → k < n → bit texts k ≡ false → Kind c k → (e + 1 ≤ getD items k 0) × (getD items k 0 < nodesOf t) × (isElement t (getD items k 0) ≡ true)
         go k m b (is-text i j x q) = absurd (true≢false (sym x ∙ b))
         go k m b (is-element i x q) = let l = child-later (f .pass .nodes) e (getD (childrenOf t e) k 0) h (child-at c k m) in rw q (omega arith, l .1, i)
+
+    pub mixed-given : {items : List ℕ} {n texts elements : ℕ} → Contents t e items n texts elements → n ≡ length items → Given bytes ends s t alone nothing blank pairs items e attributes texts
+    mixed-given {items} {n} {texts} {elements} c size = given items texts (let l = c .few in omega arith) (λ k m b. text-item (f .pass) h c k (rw size m) b) (λ k m b. mixed-later c k (rw size m) b)
 
     pub simple-given : (one : List ℕ) → length one ≡ 1 → getD one 0 0 < length ends → Given bytes ends s t alone nothing blank pairs one e attributes 1
     simple-given one size l =
@@ -137,6 +165,8 @@ module _ (blank items : List ℕ) {n texts elements : ℕ} where
           let c = contents-taken (known .contents) in
           record {
             given = mixed-given (known .filling) (known .in-table) (known .counted) (known .few) c size;
+            apart = λ x m b. let l = mixed-later (known .filling) (known .in-table) (known .counted) (known .few) c x (rw size m) b .0 in λ z. omega arith;
+            empty = λ d m. known .filling .empty _ d (omega arith) m;
             shown = mixed-shown (known .filling .pass) (known .in-table) (known .counted) (known .few) (known .all) blank c size f (known .filling .filled .blanks) (rw (q, ← size) at solid);
           }
 
@@ -156,6 +186,8 @@ module _ (blank items : List ℕ) {n texts elements : ℕ} where
           let low = string-known (known .filling .pass) (known .in-table) (known .counted) (known .few) (known .all) (known .contents) z q in
           record {
             given = simple-given (known .filling) (known .in-table) (known .counted) (known .few) (take 1 (set items 0 v)) size (rw first low);
+            apart = λ x m b. let one = size in let z : x ≡ 0 = omega arith in absurd (true≢false (sym (bit-pow 0 x ∙ eq-eqb x 0 z) ∙ b));
+            empty = λ d m. known .filling .empty _ d (omega arith) m;
             shown = simple-shown (known .filling .pass) (known .in-table) (known .counted) (known .few) (known .all) blank (known .contents) z q (known .filling .filled .blanks) (take 1 (set items 0 v)) size first weak w;
           }
 

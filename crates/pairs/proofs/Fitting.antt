@@ -1,22 +1,21 @@
--- One definition against the words of an element.
-use Prim.Native.Nat.{ℕ, _+_, _*_, _<_}
-use mathlib.Core.Path.{_≡_, refl, sym, _∙_, ap}
+-- One definition against the attributes and items of an element.
+use Prim.Native.Nat.{ℕ, _+_, _<_}
+use mathlib.Core.Path.{_≡_, refl, sym, _∙_}
 use mathlib.Core.Bool.{Bool, true, false, true≢false, false≢true}
 use mathlib.Core.List.{List}
-use mathlib.Core.Logic.{_↔_, _⊎_, inr, ⊎-elim, _≢_}
+use mathlib.Core.Logic.{_↔_, _⊎_, inr, ⊎-elim, ⊎-map}
 use native.Mathlib.Omega.{arith}
-use lib.ListN.{length, getD, set, length-set}
+use lib.ListN.{length, getD}
 use lib.Dec.{ltb}
-use lib.Seq.{getD-set-same, getD-set-other}
-use borrow.Author.Count.{below-more}
 use borrow.Author.Tests.{ltb-true}
 use Rattle.tables.specs.Answers.{Decides}
-use Rattle.schema.specs.Kinds as kind
-use Rattle.schema.specs.Rows.{rowsOf, kindOf, aOf, bOf, sortOf, shapeOf, isElement, isPattern}
-use Rattle.schema.specs.RowRule.{maxRows, RowsRight}
+use Rattle.schema.specs.Rows.{rowsOf, aOf, bOf, sortOf, shapeOf, isPattern}
+use Rattle.schema.specs.RowRule.{RowsRight}
 use Rattle.schema.proofs.Fields.{both-fields}
 use Rattle.schema.proofs.Sorts.{definition-kind}
+use Rattle.definitions.specs.Definitions.{isDefinition}
 use Rattle.instance.specs.Nodes as node
+use Rattle.instance.specs.Elements as element
 use Rattle.classes.specs.Membership.{inClass}
 use Rattle.sets.specs.Bits.{bit}
 use Rattle.relations.specs.Relations.{Relation}
@@ -24,9 +23,10 @@ use Rattle.relations.specs.Words.{Is, front}
 use Rattle.sets.proofs.Members.{none-has}
 use Rattle.relations.proofs.Words.{front-at}
 use Rattle.rules.proofs.Booleans.{and-left}
-use Rattle.marks.specs.Given.{pairEntry}
+use Rattle.marks.specs.Given.{itemAt, Given}
 use Rattle.matching.specs.Setting.{Setting, Asked}
-use Rattle.pairs.specs.Rows.{Fits, FitsDefinition, TellsPair, RowTold}
+use Rattle.pairs.specs.Pairs.{IsPair}
+use Rattle.pairs.specs.Rows.{Fits, Shown}
 
 -- a test that reads one pair of a relation from its words
 pub word-tells : (n : ℕ) (w : List ℕ) (R : Relation) {v : ℕ} {r : Bool} → Is (front (n + 1) w) R → v ≡ getD w 0 0 → r ≡ bit v n → Decides (R 0 n) r
@@ -48,46 +48,35 @@ pub neither-tells : (A B : Type 0) (w : Bool) → ¬ A → w ≡ false → ¬ (A
 neither-tells A B w f e = ⊎-elim f (λ y. true≢false (sym (y .0) ∙ e))
 
 -- the pattern of a definition is a row of the table
-pub content-row : {strings : ℕ} {s : List ℕ} → RowsRight strings s → (d : ℕ) → d < rowsOf s → kindOf s d ≡ kind.element → bOf s d < rowsOf s
+pub content-row : {strings : ℕ} {s : List ℕ} → RowsRight strings s → (d : ℕ) → d < rowsOf s → isDefinition s d ≡ true → bOf s d < rowsOf s
 unfolding shapeOf
-content-row {strings} {s} right d h e =
+content-row {strings} {s} right d h f =
+    let e = definition-kind s d f in
     let i = ltb-true (bOf s d) d (and-left (ltb (bOf s d) d) (isPattern (sortOf s (bOf s d))) (rw e at (both-fields strings s right d h .1))) in
     omega arith
 
-module _ {s marks named taken single : List ℕ} (S : Setting s marks named taken single) (a k : ℕ) where
-  -- the same attributes with no items
-  pub asked-none : Asked S a k → Asked S a 0
-  asked-none q = record { of-attributes = q .of-attributes; of-items = λ x h. absurd (none-has x h); distinct = q .distinct; clean = λ h j e m x. absurd (none-has h x) }
+-- the same attributes with no items
+pub asked-none : {s : List ℕ} (S : Setting s) (a k : ℕ) → Asked S a k → Asked S a 0
+asked-none S a k q = record { of-attributes = q .of-attributes; of-items = λ x h. absurd (none-has x h); distinct = q .distinct; clean = λ h j e m x. absurd (none-has h x) }
 
-  module _ (n : ℕ) (t : List ℕ) (weak : Bool) (e d : ℕ) where
+-- an element and a definition, where the attributes and items stand for the element
+module _ {bytes ends s t alone nothing blank pairs items : List ℕ} {e attributes texts : ℕ} (g : Given bytes ends s t alone nothing blank pairs items e attributes texts)
+    {a k : ℕ} {weak : Bool} (shown : Shown bytes ends s t items e attributes texts a k weak) where
+  abbrev pub setting : Setting s
+  setting = record { bytes = bytes; ends = ends; t = t; passes = g .passes; element = e; attributes = attributes; it = itemAt bytes ends items texts; items = length items }
+
+  pub asked : Asked setting a k
+  asked = record { of-attributes = shown .of-attributes; of-items = shown .of-items; distinct = shown .distinct; clean = shown .clean }
+
+  module _ (d : ℕ) where
     abbrev Told : ℕ → Type 0
-    Told v = (v ≡ 1) ↔ FitsDefinition S t n a k weak e d
-
-    pub no-definition : kindOf s d ≢ kind.element → Told 0
-    no-definition f = (λ z. absurd (omega arith), λ x. absurd (f (definition-kind s d (x .defined))))
+    Told v = (v ≡ 1) ↔ IsPair bytes ends s t e d
 
     pub no-name : inClass s (node.aOf t e) (node.bOf t e) (aOf s d) ≡ false → Told 0
-    no-name f = (λ z. absurd (omega arith), λ x. absurd (true≢false (sym (x .has-name) ∙ f)))
+    no-name f = (λ z. absurd (omega arith), λ x. absurd (true≢false (sym (x .1 .named) ∙ f)))
 
-    pub no-content : ¬ Fits S n a k weak (bOf s d) → Told 0
-    no-content f = (λ z. absurd (omega arith), λ x. absurd (f (x .content)))
+    pub no-content : ¬ Fits setting (length items) a k weak (bOf s d) → Told 0
+    no-content f = (λ z. absurd (omega arith), λ x. absurd (f (⊎-map (λ y. (omega arith, y)) (λ y. (y .0, (omega arith, y .1))) (shown .content (bOf s d) .0 (x .1 .content)))))
 
-    pub a-pair : kindOf s d ≡ kind.element → inClass s (node.aOf t e) (node.bOf t e) (aOf s d) ≡ true → Fits S n a k weak (bOf s d) → Told 1
-    unfolding shapeOf
-    a-pair f h c = (λ z. record { defined = ap (λ (x : ℕ). isElement (shapeOf x .sort)) f; has-name = h; content = c }, λ x. refl)
-
--- the row of e while it is filled
-pub row-none : {s t marks named taken single before : List ℕ} {n a k : ℕ} {weak : Bool} {e : ℕ} → RowTold s t marks named taken single n a k weak before before e 0
-row-none = record { others = record { size = refl; kept = λ x d h l. refl }; told = λ d h. absurd (omega arith) }
-
-pub row-more : {s t marks named taken single before now : List ℕ} {n a k : ℕ} {weak : Bool} {e d v : ℕ} → d < maxRows → e * maxRows + d < length now → TellsPair s t marks named taken single n a k weak e d v
-    → RowTold s t marks named taken single n a k weak before now e d → RowTold s t marks named taken single n a k weak before (set now (e * maxRows + d) v) e (d + 1)
-row-more {s} {t} {marks} {named} {taken} {single} {before} {now} {n} {a} {k} {weak} {e} {d} {v} h l p r = record {
-  others = record {
-    size = length-set now (e * maxRows + d) v ∙ r .others .size;
-    kept = λ x c f m. getD-set-other now (e * maxRows + d) (x * maxRows + c) v 0 (λ z. f (omega arith)) ∙ r .others .kept x c f m;
-  };
-  told = below-more (λ (c : ℕ). TellsPair s t marks named taken single n a k weak e c (pairEntry (set now (e * maxRows + d) v) e c)) d
-      (λ c m S q. rw (getD-set-other now (e * maxRows + d) (e * maxRows + c) v 0 (λ z. omega arith)) (r .told c m S q))
-      (λ S q. rw (getD-set-same now (e * maxRows + d) v 0 l) (p S q));
-}
+    pub a-pair : element.isElement t e ≡ true → isDefinition s d ≡ true → inClass s (node.aOf t e) (node.bOf t e) (aOf s d) ≡ true → Fits setting (length items) a k weak (bOf s d) → Told 1
+    a-pair i f h c = (λ z. (i, record { defined = f; ordered = shown .ordered; named = h; content = shown .content (bOf s d) .1 (⊎-map (λ x. x .1) (λ x. (x .0, x .1 .1)) c) }), λ x. refl)

@@ -1,16 +1,15 @@
 -- One row of the table of pairs while it is filled; cited by private functions only.
 use Prim.Native.Nat.{ℕ, _+_, _≤_, _<_}
 use mathlib.Core.Path.{_≡_}
-use mathlib.Core.Bool.{Bool, true, not, _&&_}
+use mathlib.Core.Bool.{Bool, true, false, not, _&&_}
 use mathlib.Core.List.{List}
 use mathlib.Core.Logic.{_↔_, _⊎_, _≢_}
 use lib.Dec.{eqb}
 use lib.ListN.{length, getD, take}
-use Rattle.schema.specs.Rows.{rowsOf, aOf, bOf, sortOf, isElement}
+use Rattle.schema.specs.Rows.{rowsOf}
 use Rattle.schema.specs.RowRule.{maxRows}
 use Rattle.instance.specs.Nodes as node
 use Rattle.instance.specs.Width.{maxWidth}
-use Rattle.classes.specs.Membership.{inClass}
 use Rattle.sets.specs.Bits.{bit}
 use Rattle.rules.specs.Rules.{OkAsChildren, WeakMatch, NotMatchBy}
 use Rattle.rules.specs.Job.{lookups}
@@ -22,33 +21,24 @@ use Rattle.marks.specs.Marks.{attributesIn}
 use Rattle.marks.specs.Given.{itemAt, pairEntry, Given}
 use Rattle.marks.specs.Tests.{Collects}
 use Rattle.contents.specs.Contents.{Counted, Contents}
-use Rattle.matching.specs.Setting.{Setting, Asked, Related}
+use Rattle.matching.specs.Setting.{Setting, Related}
 use Rattle.pairs.specs.Pairs.{IsPair, TablesPass, PairsFrom}
 
-module _ {s marks named taken single : List ℕ} (S : Setting s marks named taken single) where
+module _ {s : List ℕ} (S : Setting s) where
   -- all items of k, of the first n, match the pattern at row p; or, where the content is whitespace, no item does (9.3.7, weak match 2)
   abbrev pub Fits : (n a k : ℕ) (weak : Bool) (p : ℕ) → Type 0
   Fits n a k weak p = Related S (n + 1) a k p 0 n ⊎ ((weak ≡ true) × Related S (n + 1) a 0 p 0 n)
-
-  -- row d is a definition whose class has the name of instance row e, and whose pattern fits
-  pub record FitsDefinition (t : List ℕ) (n a k : ℕ) (weak : Bool) (e d : ℕ) : Type 0 where
-    pub defined : isElement (sortOf s d) ≡ true
-    pub has-name : inClass s (node.aOf t e) (node.bOf t e) (aOf s d) ≡ true
-    pub content : Fits n a k weak (bOf s d)
-
--- v tells whether definition d fits
-abbrev pub TellsPair : (s t marks named taken single : List ℕ) (n a k : ℕ) (weak : Bool) (e d v : ℕ) → Type 0
-TellsPair s t marks named taken single n a k weak e d v = (S : Setting s marks named taken single) → Asked S a k → (v ≡ 1) ↔ FitsDefinition S t n a k weak e d
 
 -- nothing but the row of e has changed
 pub record RowKept (before after : List ℕ) (e : ℕ) : Type 0 where
   pub size : length after ≡ length before
   pub kept : (x d : ℕ) → x ≢ e → d < maxRows → pairEntry after x d ≡ pairEntry before x d
 
--- the entries of the row of e before upto are told
-pub record RowTold (s t marks named taken single : List ℕ) (n a k : ℕ) (weak : Bool) (before after : List ℕ) (e upto : ℕ) : Type 0 where
+-- the entries of e at the first n definitions are right, and the others as before
+pub record RowTold (bytes ends s t definitions before after : List ℕ) (e n : ℕ) : Type 0 where
   pub others : RowKept before after e
-  pub told : (d : ℕ) → d < upto → TellsPair s t marks named taken single n a k weak e d (pairEntry after e d)
+  pub told : (j : ℕ) → j < n → (pairEntry after e (getD definitions j 0) ≡ 1) ↔ IsPair bytes ends s t e (getD definitions j 0)
+  pub rest : (d : ℕ) → d < maxRows → ((j : ℕ) → j < n → getD definitions j 0 ≢ d) → pairEntry after e d ≡ pairEntry before e d
 
 -- the attributes a and the items k of element e stand for all of it: its content matches weakly exactly where they fit
 pub record Shown (bytes ends s t items : List ℕ) (e attributes texts a k : ℕ) (weak : Bool) : Type 0 where
@@ -90,6 +80,9 @@ pub record Known (bytes ends s t alone nothing blank pairs items : List ℕ) (e 
 pub record Ready (bytes ends s t alone nothing blank pairs items : List ℕ) (e attributes texts a k : ℕ) (weak : Bool) : Type 0 where
   pub given : Given bytes ends s t alone nothing blank pairs items e attributes texts
   pub shown : Shown bytes ends s t items e attributes texts a k weak
+  -- the elements among the items have rows of their own, and that of e is empty
+  pub apart : (x : ℕ) → x < length items → bit texts x ≡ false → getD items x 0 ≢ e
+  pub empty : (d : ℕ) → d < maxRows → pairEntry pairs e d ≡ 0
 
 -- the first `count` items of after stand for the content that the n items of before are
 pub record StandsFor (blank before after : List ℕ) (n texts elements count strings k : ℕ) (weak : Bool) : Type 0 where

@@ -2,6 +2,7 @@
 ghost use mathlib.Core.Path.{_≡_};
 ghost use mathlib.Core.Bool.{true, cond};
 ghost use mathlib.Core.List.{List};
+ghost use mathlib.Core.Logic.{_↔_};
 ghost use Prim.Native.Nat.{ℕ, _+_, _*_, _≤_, _<_};
 ghost use lib.Dec.{eqb};
 ghost use lib.ListN.{length, getD, take};
@@ -9,14 +10,15 @@ ghost use Rattle.tables.specs.Answers.{Decides};
 ghost use Rattle.schema.specs.RowRule.{maxRows};
 ghost use Rattle.schema.specs.Rows.{rowsOf};
 ghost use Rattle.instance.specs.Width.{maxWidth};
-ghost use Rattle.matching.specs.Setting.{Setting, Asked, Related};
+ghost use Rattle.definitions.specs.Definitions.{isDefinition, Definitions};
+ghost use Rattle.matching.specs.Setting.{Setting, Asked, Covered, Related};
 ghost use Rattle.instance.specs.NodeRule.{maxNodes};
 ghost use Rattle.instance.specs.Nodes.{nodesOf};
 ghost use Rattle.instance.specs.Elements.{isElement};
 ghost use Rattle.marks.specs.Given.{Given};
 ghost use Rattle.marks.specs.Tests.{Collects};
-ghost use Rattle.pairs.specs.Pairs.{TablesPass, PairsRight};
-ghost use Rattle.pairs.specs.Rows.{Fits, TellsPair, RowTold, Shown, RowRight, isSolid, Filling, StandsFor};
+ghost use Rattle.pairs.specs.Pairs.{TablesPass, IsPair, PairsRight};
+ghost use Rattle.pairs.specs.Rows.{Fits, Shown, Ready, RowRight, isSolid, Filling, StandsFor};
 
 // Whether the attributes a and all items of k, of the first n, match the pattern at row p.
 fn all_match(
@@ -32,7 +34,7 @@ fn all_match(
     work: &mut [u64],
 ) -> bool
     requires { ⌜ (32768 ≤ length (now work)) × (n ≤ maxWidth) ⌝ }
-    ensures { λ r. ⌜ ((S : Setting (now (schema .entry)) (now (marks .entry)) (now (named .entry)) (now (taken .entry)) (now (single .entry))) → Asked S a k → p < rowsOf (now (schema .entry)) → Decides (Related S (n + 1) a k p 0 n) r) ⌝ }
+    ensures { λ r. ⌜ ((S : Setting (now (schema .entry))) → Asked S a k → p < rowsOf (now (schema .entry)) → Covered S (now (marks .entry)) (now (named .entry)) (now (taken .entry)) (now (single .entry)) p → Decides (Related S (n + 1) a k p 0 n) r) ⌝ }
 {
     matching::relate(schema, marks, named, taken, single, n + 1, a, k, p, work);
     sets::has(sets::word(work, 0), n)
@@ -53,7 +55,7 @@ fn content_fits(
     work: &mut [u64],
 ) -> bool
     requires { ⌜ (32768 ≤ length (now work)) × (n ≤ maxWidth) ⌝ }
-    ensures { λ r. ⌜ ((S : Setting (now (schema .entry)) (now (marks .entry)) (now (named .entry)) (now (taken .entry)) (now (single .entry))) → Asked S a k → p < rowsOf (now (schema .entry)) → Decides (Fits S n a k weak p) r) ⌝ }
+    ensures { λ r. ⌜ ((S : Setting (now (schema .entry))) → Asked S a k → p < rowsOf (now (schema .entry)) → Covered S (now (marks .entry)) (now (named .entry)) (now (taken .entry)) (now (single .entry)) p → Decides (Fits S n a k weak p) r) ⌝ }
 {
     if all_match(schema, marks, named, taken, single, n, a, k, p, work) {
         return true;
@@ -64,28 +66,31 @@ fn content_fits(
     false
 }
 
-// The entry of element e and schema row d.
+// The entry of element e and definition d: its pattern is marked, and then related.
 fn pair_at(
     schema: &[u32],
     instance: &[u32],
-    marks: &[u64],
-    named: &[u64],
-    taken: &[u64],
-    single: &[u64],
-    n: u32,
+    alone: &[u8],
+    nothing: &[u8],
+    blank: &[u8],
+    e: u32,
+    attributes: u32,
+    items: &[u32],
+    texts: u64,
     a: u64,
     k: u64,
     weak: bool,
-    e: u32,
     d: u32,
+    pairs: &[u8],
+    marks: &mut [u64],
+    named: &mut [u64],
+    taken: &mut [u64],
+    single: &mut [u64],
     work: &mut [u64],
 ) -> u8
-    requires { ⌜ (32768 ≤ length (now work)) × (n ≤ maxWidth) ⌝ }
-    ensures { λ v. ⌜ (d < rowsOf (now (schema .entry)) → TellsPair (now (schema .entry)) (now (instance .entry)) (now (marks .entry)) (now (named .entry)) (now (taken .entry)) (now (single .entry)) n a k weak e d v) ⌝ }
+    requires { ⌜ (32768 ≤ length (now work)) × (512 ≤ length (now marks)) × (512 ≤ length (now named)) × (512 ≤ length (now taken)) × (512 ≤ length (now single)) × (rowsOf (now schema) ≤ 512) × (length (now items) ≤ maxWidth) ⌝ }
+    ensures { λ v. ⌜ ((bytes ends : List ℕ) → Given bytes ends (now (schema .entry)) (now (instance .entry)) (now (alone .entry)) (now (nothing .entry)) (now (blank .entry)) (now (pairs .entry)) (now (items .entry)) e attributes texts → Shown bytes ends (now (schema .entry)) (now (instance .entry)) (now (items .entry)) e attributes texts a k weak → isElement (now (instance .entry)) e ≡ true → isDefinition (now (schema .entry)) d ≡ true → d < rowsOf (now (schema .entry)) → (v ≡ 1) ↔ IsPair bytes ends (now (schema .entry)) (now (instance .entry)) e d) ⌝ }
 {
-    if schema::kind(schema, d) != 20 {
-        return 0;
-    }
     let class = schema::field_a(schema, d);
     let namespace = instance::field_a(instance, e);
     let local = instance::field_b(instance, e);
@@ -93,51 +98,81 @@ fn pair_at(
         return 0;
     }
     let p = schema::field_b(schema, d);
+    marks::mark(
+        schema,
+        instance,
+        alone,
+        nothing,
+        blank,
+        pairs,
+        e,
+        attributes,
+        items,
+        texts,
+        p,
+        marks,
+        named,
+        taken,
+        single,
+    );
+    let n = items.len() as u32;
     if content_fits(schema, marks, named, taken, single, n, a, k, weak, p, work) {
         return 1;
     }
     0
 }
 
-// The entries of element e.
+// The entries of element e, from the attributes a and the items k that stand for all of it.
 fn pair_row(
     schema: &[u32],
     instance: &[u32],
-    marks: &[u64],
-    named: &[u64],
-    taken: &[u64],
-    single: &[u64],
-    n: u32,
+    alone: &[u8],
+    nothing: &[u8],
+    blank: &[u8],
+    definitions: &[u32],
+    e: u32,
+    attributes: u32,
+    items: &[u32],
+    texts: u64,
     a: u64,
     k: u64,
     weak: bool,
-    e: u32,
     pairs: &mut [u8],
+    marks: &mut [u64],
+    named: &mut [u64],
+    taken: &mut [u64],
+    single: &mut [u64],
     work: &mut [u64],
 )
-    requires { ⌜ (32768 ≤ length (now work)) × (524288 ≤ length (now pairs)) × (e < 1024) × (rowsOf (now schema) ≤ 512) × (n ≤ maxWidth) ⌝ }
-    ensures { λ _. ⌜ RowTold (now (schema .entry)) (now (instance .entry)) (now (marks .entry)) (now (named .entry)) (now (taken .entry)) (now (single .entry)) n a k weak (now (pairs .entry)) (now (pairs .exit)) e (rowsOf (now (schema .entry))) ⌝ }
+    requires { ⌜ (32768 ≤ length (now work)) × (524288 ≤ length (now pairs)) × (e < 1024) × (rowsOf (now schema) ≤ 512) × (512 ≤ length (now marks)) × (512 ≤ length (now named)) × (512 ≤ length (now taken)) × (512 ≤ length (now single)) × (length (now items) ≤ maxWidth) × Definitions (now schema) (now definitions) (length (now definitions)) ⌝ }
+    ensures { λ _. ⌜ ((bytes ends : List ℕ) → Ready bytes ends (now (schema .entry)) (now (instance .entry)) (now (alone .entry)) (now (nothing .entry)) (now (blank .entry)) (now (pairs .entry)) (now (items .entry)) e attributes texts a k weak → isElement (now (instance .entry)) e ≡ true → RowRight bytes ends (now (schema .entry)) (now (instance .entry)) (now (pairs .entry)) (now (pairs .exit)) e) ⌝ }
 {
-    let rows = schema.len() / 3;
-    let mut d: usize = 0;
-    while d < rows {
+    let mut i: usize = 0;
+    while i < definitions.len() {
+        let d = tables::word(definitions, i);
         let v = pair_at(
             schema,
             instance,
+            alone,
+            nothing,
+            blank,
+            e,
+            attributes,
+            items,
+            texts,
+            a,
+            k,
+            weak,
+            d,
+            pairs,
             marks,
             named,
             taken,
             single,
-            n,
-            a,
-            k,
-            weak,
-            e,
-            d as u32,
             work,
         );
-        pairs[e as usize * 512 + d] = v;
-        d += 1;
+        pairs[e as usize * 512 + d as usize] = v;
+        i += 1;
     }
 }
 
@@ -208,63 +243,6 @@ fn content_of(blank: &[u8], items: &mut [u32], n: u32, texts: u64, elements: u64
     }
 }
 
-// The entries of element e, from the attributes a and the items k that stand for all of it.
-fn pair_items(
-    schema: &[u32],
-    instance: &[u32],
-    alone: &[u8],
-    nothing: &[u8],
-    blank: &[u8],
-    e: u32,
-    attributes: u32,
-    items: &[u32],
-    texts: u64,
-    a: u64,
-    k: u64,
-    weak: bool,
-    pairs: &mut [u8],
-    marks: &mut [u64],
-    named: &mut [u64],
-    taken: &mut [u64],
-    single: &mut [u64],
-    work: &mut [u64],
-)
-    requires { ⌜ (32768 ≤ length (now work)) × (524288 ≤ length (now pairs)) × (e < 1024) × (rowsOf (now schema) ≤ 512) × (512 ≤ length (now marks)) × (512 ≤ length (now named)) × (512 ≤ length (now taken)) × (512 ≤ length (now single)) × (length (now items) ≤ maxWidth) ⌝ }
-    ensures { λ _. ⌜ ((bytes ends : List ℕ) → Given bytes ends (now (schema .entry)) (now (instance .entry)) (now (alone .entry)) (now (nothing .entry)) (now (blank .entry)) (now (pairs .entry)) (now (items .entry)) e attributes texts → isElement (now (instance .entry)) e ≡ true → Shown bytes ends (now (schema .entry)) (now (instance .entry)) (now (items .entry)) e attributes texts a k weak → RowRight bytes ends (now (schema .entry)) (now (instance .entry)) (now (pairs .entry)) (now (pairs .exit)) e) ⌝ }
-{
-    marks::mark(
-        schema,
-        instance,
-        alone,
-        nothing,
-        blank,
-        pairs,
-        e,
-        attributes,
-        items,
-        texts,
-        marks,
-        named,
-        taken,
-        single,
-    );
-    pair_row(
-        schema,
-        instance,
-        marks,
-        named,
-        taken,
-        single,
-        items.len() as u32,
-        a,
-        k,
-        weak,
-        e,
-        pairs,
-        work,
-    );
-}
-
 // The entries of an element, where those of the later rows are right.
 fn pair_element(
     schema: &[u32],
@@ -272,6 +250,7 @@ fn pair_element(
     alone: &[u8],
     nothing: &[u8],
     blank: &[u8],
+    definitions: &[u32],
     e: u32,
     items: &mut [u32],
     pairs: &mut [u8],
@@ -281,7 +260,7 @@ fn pair_element(
     single: &mut [u64],
     work: &mut [u64],
 )
-    requires { ⌜ (32768 ≤ length (now work)) × (524288 ≤ length (now pairs)) × (e < 1024) × (rowsOf (now schema) ≤ 512) × (512 ≤ length (now marks)) × (512 ≤ length (now named)) × (512 ≤ length (now taken)) × (512 ≤ length (now single)) × (64 ≤ length (now items)) × (nodesOf (now instance) ≤ 1024) × (e < nodesOf (now instance)) ⌝ }
+    requires { ⌜ (32768 ≤ length (now work)) × (524288 ≤ length (now pairs)) × (e < 1024) × (rowsOf (now schema) ≤ 512) × (512 ≤ length (now marks)) × (512 ≤ length (now named)) × (512 ≤ length (now taken)) × (512 ≤ length (now single)) × (64 ≤ length (now items)) × (nodesOf (now instance) ≤ 1024) × (e < nodesOf (now instance)) × Definitions (now schema) (now definitions) (length (now definitions)) ⌝ }
     ensures { λ _. ⌜ ((bytes ends : List ℕ) → Filling bytes ends (now (schema .entry)) (now (instance .entry)) (now (alone .entry)) (now (nothing .entry)) (now (blank .entry)) (now (pairs .entry)) (e + 1) → isElement (now (instance .entry)) e ≡ true → RowRight bytes ends (now (schema .entry)) (now (instance .entry)) (now (pairs .entry)) (now (pairs .exit)) e) ⌝ }
 {
     let attributes = contents::attributes(instance, e);
@@ -295,12 +274,13 @@ fn pair_element(
     }
     let content = content_of(blank, items, n, texts, elements);
     let count = content.count;
-    pair_items(
+    pair_row(
         schema,
         instance,
         alone,
         nothing,
         blank,
+        definitions,
         e,
         attributes,
         first_items(items, count),
@@ -324,6 +304,7 @@ fn pair_node(
     alone: &[u8],
     nothing: &[u8],
     blank: &[u8],
+    definitions: &[u32],
     e: u32,
     items: &mut [u32],
     pairs: &mut [u8],
@@ -333,7 +314,7 @@ fn pair_node(
     single: &mut [u64],
     work: &mut [u64],
 )
-    requires { ⌜ (32768 ≤ length (now work)) × (524288 ≤ length (now pairs)) × (e < 1024) × (rowsOf (now schema) ≤ 512) × (512 ≤ length (now marks)) × (512 ≤ length (now named)) × (512 ≤ length (now taken)) × (512 ≤ length (now single)) × (64 ≤ length (now items)) × (nodesOf (now instance) ≤ 1024) × (e < nodesOf (now instance)) ⌝ }
+    requires { ⌜ (32768 ≤ length (now work)) × (524288 ≤ length (now pairs)) × (e < 1024) × (rowsOf (now schema) ≤ 512) × (512 ≤ length (now marks)) × (512 ≤ length (now named)) × (512 ≤ length (now taken)) × (512 ≤ length (now single)) × (64 ≤ length (now items)) × (nodesOf (now instance) ≤ 1024) × (e < nodesOf (now instance)) × Definitions (now schema) (now definitions) (length (now definitions)) ⌝ }
     ensures { λ _. ⌜ ((bytes ends : List ℕ) → Filling bytes ends (now (schema .entry)) (now (instance .entry)) (now (alone .entry)) (now (nothing .entry)) (now (blank .entry)) (now (pairs .entry)) (e + 1) → Filling bytes ends (now (schema .entry)) (now (instance .entry)) (now (alone .entry)) (now (nothing .entry)) (now (blank .entry)) (now (pairs .exit)) e) ⌝ }
 {
     if instance::kind(instance, e) != instance::ELEMENT {
@@ -345,6 +326,7 @@ fn pair_node(
         alone,
         nothing,
         blank,
+        definitions,
         e,
         items,
         pairs,
@@ -363,6 +345,7 @@ fn pair_all(
     alone: &[u8],
     nothing: &[u8],
     blank: &[u8],
+    definitions: &[u32],
     items: &mut [u32],
     pairs: &mut [u8],
     marks: &mut [u64],
@@ -371,7 +354,7 @@ fn pair_all(
     single: &mut [u64],
     work: &mut [u64],
 )
-    requires { ⌜ (32768 ≤ length (now work)) × (524288 ≤ length (now pairs)) × (rowsOf (now schema) ≤ 512) × (512 ≤ length (now marks)) × (512 ≤ length (now named)) × (512 ≤ length (now taken)) × (512 ≤ length (now single)) × (64 ≤ length (now items)) × (nodesOf (now instance) ≤ 1024) ⌝ }
+    requires { ⌜ (32768 ≤ length (now work)) × (524288 ≤ length (now pairs)) × (rowsOf (now schema) ≤ 512) × (512 ≤ length (now marks)) × (512 ≤ length (now named)) × (512 ≤ length (now taken)) × (512 ≤ length (now single)) × (64 ≤ length (now items)) × (nodesOf (now instance) ≤ 1024) × Definitions (now schema) (now definitions) (length (now definitions)) ⌝ }
     ensures { λ _. ⌜ ((bytes ends : List ℕ) → Filling bytes ends (now (schema .entry)) (now (instance .entry)) (now (alone .entry)) (now (nothing .entry)) (now (blank .entry)) (now (pairs .entry)) (nodesOf (now (instance .entry))) → Filling bytes ends (now (schema .entry)) (now (instance .entry)) (now (alone .entry)) (now (nothing .entry)) (now (blank .entry)) (now (pairs .exit)) 0) ⌝ }
 {
     let mut r = instance.len() / 5;
@@ -383,6 +366,7 @@ fn pair_all(
             alone,
             nothing,
             blank,
+            definitions,
             r as u32,
             items,
             pairs,
@@ -413,6 +397,8 @@ pub fn pair_table(bytes: &[u8], ends: &[u32], schema: &[u32], instance: &[u32], 
     let mut nothing = [0u8; 512];
     let mut blank = [0u8; 512];
     alone::fill(bytes, ends, schema, &mut alone, &mut nothing, &mut blank);
+    let mut rows = [0u32; 512];
+    let n = definitions::definitions(schema, &mut rows) as usize;
     let mut items = [0u32; 64];
     let mut marks = [0u64; 512];
     let mut named = [0u64; 512];
@@ -425,6 +411,7 @@ pub fn pair_table(bytes: &[u8], ends: &[u32], schema: &[u32], instance: &[u32], 
         &alone,
         &nothing,
         &blank,
+        &rows[..n],
         &mut items,
         pairs,
         &mut marks,

@@ -189,15 +189,15 @@ module _ {strings : ℕ} {s : List ℕ} (right : RowsRight strings s) where
   operand-connective interleave-second (makes-interleave e) = rw e
 
   -- what an operand of p has occurs in p
-  step : {p r x : ℕ} → Operand r (patternOf s p) → Occurs s x r → Occurs s x p
-  step {p} i o = within (operand-connective i (row-makes s p refl)) (part-child p (operand i)) o
+  pub operand-occurs : {p r x : ℕ} → Operand r (patternOf s p) → Occurs s x r → Occurs s x p
+  operand-occurs {p} i o = within (operand-connective i (row-makes s p refl)) (part-child p (operand i)) o
 
 module _ {strings : ℕ} {s : List ℕ} (right : RowsRight strings s) (bytes ends t : List ℕ) where
   reached : {test : Pattern → Bool} {x : Pattern} → Reaches (lookups bytes ends s t) test x → (p : ℕ) → patternOf s p ≡ x → (r : ℕ) × Occurs s r p × (test (patternOf s r) ≡ true)
   reached {test} (here h) p e = (p, itself, subst (λ (x : Pattern). test x ≡ true) (sym e) h)
   reached (there r i h) p e =
       let o = reached h r refl in
-      (o .0, step right (subst (Operand r) (sym e) i) (o .1), o .2)
+      (o .0, operand-occurs right (subst (Operand r) (sym e) i) (o .1), o .2)
 
   -- a pattern that p reaches is that of a row that occurs in p
   pub reached-row : {test : Pattern → Bool} (p : ℕ) → Reaches (lookups bytes ends s t) test (patternOf s p) → (r : ℕ) × Occurs s r p × (test (patternOf s r) ≡ true)
@@ -207,7 +207,7 @@ module _ {strings : ℕ} {s : List ℕ} (right : RowsRight strings s) (bytes end
   inside itself p e = (p, itself, e)
   inside (down r i h) p e =
       let o = inside h r refl in
-      (o .0, step right (subst (Operand r) (sym e) i) (o .1), o .2)
+      (o .0, operand-occurs right (subst (Operand r) (sym e) i) (o .1), o .2)
 
   -- the same of a pattern within another
   pub inside-row : {y : Pattern} (p : ℕ) → Within (lookups bytes ends s t) (patternOf s p) y → (r : ℕ) × Occurs s r p × (patternOf s r ≡ y)

@@ -1,3 +1,4 @@
+-- The invariant: the entries from row r on are right.
 use Rattle.pairs.specs.Rows.{Filling}
 use Rattle.instance.specs.Nodes.{nodesOf}
 use native.Mathlib.Omega.{arith}
@@ -8,69 +9,52 @@ use Prim.Native.Nat.{ℕ, _+_, _-_, _≤_}
 use borrow.Author.Needs.{needs}
 use Rattle.pairs.proofs.pair_all.Statement.{statement}
 use Rattle.pairs.proofs.pair_all.Tie as tie
-use Rattle.pairs.proofs.pair_all.Reads as reads
-use Rattle.pairs.proofs.pair_all.Lts as lts
-use Rattle.pairs.proofs.pair_node.Reads as pair-node-reads
 
 abbrev Inv-loop : tie.InvT-loop
-Inv-loop schema instance alone nothing blank items₀ pairs₀ marks₀ named₀ taken₀ single₀ work₀ r₀ items pairs marks named taken single work r = (r ≤ nodesOf instance) × (length items ≡ length items₀) × (length pairs ≡ length pairs₀) × (length marks ≡ length marks₀) × (length named ≡ length named₀) × (length taken ≡ length taken₀) × (length single ≡ length single₀) × (length work ≡ length work₀) × ((bytes ends : List ℕ) → Filling bytes ends schema instance alone nothing blank pairs₀ (nodesOf instance) → Filling bytes ends schema instance alone nothing blank pairs r)
+Inv-loop schema instance alone nothing blank definitions items₀ pairs₀ marks₀ named₀ taken₀ single₀ work₀ r₀ items pairs marks named taken single work r = (r ≤ nodesOf instance) × (length items ≡ length items₀) × (length pairs ≡ length pairs₀) × (length marks ≡ length marks₀) × (length named ≡ length named₀) × (length taken ≡ length taken₀) × (length single ≡ length single₀) × (length work ≡ length work₀) × ((bytes ends : List ℕ) → Filling bytes ends schema instance alone nothing blank pairs₀ (nodesOf instance) → Filling bytes ends schema instance alone nothing blank pairs r)
 
 abbrev μ-loop : tie.MeasureT-loop
-μ-loop schema instance alone nothing blank items₀ pairs₀ marks₀ named₀ taken₀ single₀ work₀ r₀ items pairs marks named taken single work r = r
+μ-loop schema instance alone nothing blank definitions items₀ pairs₀ marks₀ named₀ taken₀ single₀ work₀ r₀ items pairs marks named taken single work r = r
 
--- src/lib.rt:451:5
 loop-holds : tie.Need-loop-holds Inv-loop μ-loop
 loop-holds c = (omega arith, refl, refl, refl, refl, refl, refl, refl, λ bytes ends f. f)
 
--- src/lib.rt:452:9
 sub-r : tie.Need-sub-r Inv-loop μ-loop
 sub-r c = search needs
 
--- src/lib.rt:459:13
 cast-pair-node : tie.Need-cast-pair-node Inv-loop μ-loop
-cast-pair-node c = let i = c .before .loop .inv in let x0 = i .0 in let x1 = i .1 in let x2 = i .2 in let x3 = i .3 in let x4 = i .4 in let x5 = i .5 in let x6 = i .6 in let x7 = i .7 in let q = c .before .before .before .before .before .before .before .before .before .before .before .before .before .before .pre in let q0 = q .0 in let q1 = q .1 in let q2 = q .2 in let q3 = q .3 in let q4 = q .4 in let q5 = q .5 in let q6 = q .6 in let q7 = q .7 in let q8 = q .8 in omega arith
+cast-pair-node c = let i = c .before .loop .inv in let x0 = i .0 in let x1 = i .1 in let x2 = i .2 in let x3 = i .3 in let x4 = i .4 in let x5 = i .5 in let x6 = i .6 in let x7 = i .7 in let q = c .before .before .before .before .before .before .before .before .before .before .before .before .before .before .before .pre in let q0 = q .0 in let q1 = q .1 in let q2 = q .2 in let q3 = q .3 in let q4 = q .4 in let q5 = q .5 in let q6 = q .6 in let q7 = q .7 in let q8 = q .8 in omega arith
 
--- src/lib.rt:453:9
 pair-node-requires : tie.Need-pair-node-requires Inv-loop μ-loop
-pair-node-requires c κs = let i = c .before .before .before .before .before .before .before .before .loop .inv in let x0 = i .0 in let x1 = i .1 in let x2 = i .2 in let x3 = i .3 in let x4 = i .4 in let x5 = i .5 in let x6 = i .6 in let x7 = i .7 in let q = c .before .before .before .before .before .before .before .before .before .before .before .before .before .before .before .before .before .before .before .before .before .pre in let q0 = q .0 in let q1 = q .1 in let q2 = q .2 in let q3 = q .3 in let q4 = q .4 in let q5 = q .5 in let q6 = q .6 in let q7 = q .7 in let q8 = q .8 in (omega arith, omega arith, omega arith, omega arith, omega arith, omega arith, omega arith, omega arith, omega arith, omega arith, omega arith)
+pair-node-requires c κs = let i = c .before .before .before .before .before .before .before .before .loop .inv in let x0 = i .0 in let x1 = i .1 in let x2 = i .2 in let x3 = i .3 in let x4 = i .4 in let x5 = i .5 in let x6 = i .6 in let x7 = i .7 in let q = c .before .before .before .before .before .before .before .before .before .before .before .before .before .before .before .before .before .before .before .before .before .before .pre in let q0 = q .0 in let q1 = q .1 in let q2 = q .2 in let q3 = q .3 in let q4 = q .4 in let q5 = q .5 in let q6 = q .6 in let q7 = q .7 in let q8 = q .8 in (omega arith, omega arith, omega arith, omega arith, omega arith, omega arith, omega arith, omega arith, omega arith, omega arith, omega arith, q .9)
 
--- src/lib.rt:451:5
 loop-less : tie.Need-loop-less Inv-loop μ-loop
 loop-less c = search needs
 
--- src/lib.rt:451:5
 loop-again : tie.Need-loop-again Inv-loop μ-loop
 loop-again c = let i = c .before .before .before .before .before .before .before .before .before .before .before .before .before .before .before .before .before .before .before .before .before .before .before .loop .inv in let x0 = i .0 in let x1 = i .1 in let x2 = i .2 in let x3 = i .3 in let x4 = i .4 in let x5 = i .5 in let x6 = i .6 in let x7 = i .7 in (omega arith, c .before .before .before .before .before .before .before .before .before .before .before .before .before .items .given ∙ x1, c .before .before .before .before .before .before .before .before .before .before .before .pairs .given ∙ x2, c .before .before .before .before .before .before .before .before .before .marks .given ∙ x3, c .before .before .before .before .before .before .before .named .given ∙ x4, c .before .before .before .before .before .taken .given ∙ x5, c .before .before .before .single .given ∙ x6, c .before .work .given ∙ x7, λ bytes ends f. let e : c .before .before .before .before .before .before .before .before .before .before .before .before .before .before .before .before .before .before .before .before .before .before .before .loop .r - 1 + 1 ≡ c .before .before .before .before .before .before .before .before .before .before .before .before .before .before .before .before .before .before .before .before .before .before .before .loop .r = omega arith in c .before .before .before .before .before .before .before .before .before .before .before .before .before .before .pair-node .ensures bytes ends (rw e (i .8 bytes ends f)))
 
--- src/lib.rt:433:1
 same-length : tie.Need-same-length Inv-loop μ-loop
 same-length c = c .before .loop .inv .1
 
--- src/lib.rt:433:1
 same-length-2 : tie.Need-same-length-2 Inv-loop μ-loop
 same-length-2 c = c .before .loop .inv .2
 
--- src/lib.rt:433:1
 same-length-3 : tie.Need-same-length-3 Inv-loop μ-loop
 same-length-3 c = c .before .loop .inv .3
 
--- src/lib.rt:433:1
 same-length-4 : tie.Need-same-length-4 Inv-loop μ-loop
 same-length-4 c = c .before .loop .inv .4
 
--- src/lib.rt:433:1
 same-length-5 : tie.Need-same-length-5 Inv-loop μ-loop
 same-length-5 c = c .before .loop .inv .5
 
--- src/lib.rt:433:1
 same-length-6 : tie.Need-same-length-6 Inv-loop μ-loop
 same-length-6 c = c .before .loop .inv .6
 
--- src/lib.rt:433:1
 same-length-7 : tie.Need-same-length-7 Inv-loop μ-loop
 same-length-7 c = c .before .loop .inv .7
 
--- src/lib.rt:433:1
 returns : tie.Need-returns Inv-loop μ-loop
 returns c = λ bytes ends f. let e : c .before .loop .r ≡ 0 = omega arith in rw e at (c .before .loop .inv .8 bytes ends f)
 

@@ -30,7 +30,7 @@ same-length c = search needs
 
 returns : tie.Need-returns
 returns c = λ bytes ends f i.
-    let q = c .before .before .before .before .before .before .before .before .before .before .before .before .before .before .before .before .before .before .before .before .before .before .before .before .before .before .before .pre in
+    let q = c .before .before .before .before .before .before .before .before .before .before .before .before .before .before .before .before .before .before .before .before .before .before .before .before .before .before .before .before .pre in
     let h = q .10 in
     let room = q .8 in
     let size = c .before .before .before .before .before .before .before .before .before .before .items .given in
@@ -42,18 +42,18 @@ content-of-requires : tie.Need-content-of-requires
 content-of-requires c κs = search needs
 
 first-items-requires : tie.Need-first-items-requires
-first-items-requires c κs = let room = c .before .before .before .before .before .before .before .before .before .before .before .before .before .before .before .before .before .before .before .before .before .before .before .before .before .before .before .before .before .before .before .before .pre .8 in
+first-items-requires c κs = let room = c .before .before .before .before .before .before .before .before .before .before .before .before .before .before .before .before .before .before .before .before .before .before .before .before .before .before .before .before .before .before .before .before .before .pre .8 in
     let x = c .before .before .before .before .before .before .before .before .before .before .before .before .before .before .before .items .given in
     let y = c .before .before .before .before .before .before .before .items2 .given in
     let z = c .before .before .items3 .given in
     let few = c .before .before .before .content-of .ensures .few in
     omega arith
 
-pair-items-requires : tie.Need-pair-items-requires
-pair-items-requires c κs = let q = c .before .before .before .before .before .before .before .before .before .before .before .before .before .before .before .before .before .before .before .before .before .before .before .before .before .before .before .before .before .before .before .before .before .before .before .before .before .before .before .pre in
+pair-row-requires : tie.Need-pair-row-requires
+pair-row-requires c κs = let q = c .before .before .before .before .before .before .before .before .before .before .before .before .before .before .before .before .before .before .before .before .before .before .before .before .before .before .before .before .before .before .before .before .before .before .before .before .before .before .before .before .pre in
     let few = c .before .before .before .before .before .before .before .before .before .before .content-of .ensures .few in
     let size = simp length-take at (ap length (c .before .before .before .before .before .before .first-items .ensures)) in
-    (q .0, q .1, q .2, q .3, q .4, q .5, q .6, q .7, omega arith)
+    (q .0, q .1, q .2, q .3, q .4, q .5, q .6, q .7, omega arith, q .11)
 
 same-length-2 : tie.Need-same-length-2
 same-length-2 c = c .before .before .before .before .before .before .before .before .before .before .before .before .before .before .before .before .before .before .before .before .before .before .items3 .given ∙ c .before .before .before .before .before .before .before .before .before .before .before .before .before .before .before .before .before .before .before .before .before .before .before .before .before .before .before .items2 .given ∙ c .before .before .before .before .before .before .before .before .before .before .before .before .before .before .before .before .before .before .before .before .before .before .before .before .before .before .before .before .before .before .before .before .before .before .before .items .given
@@ -78,14 +78,14 @@ same-length-8 c = search needs
 
 returns-2 : tie.Need-returns-2
 returns-2 c = λ bytes ends f i.
-    let q = c .before .before .before .before .before .before .before .before .before .before .before .before .before .before .before .before .before .before .before .before .before .before .before .before .before .before .before .before .before .before .before .before .before .before .before .before .before .before .before .before .before .before .before .before .before .before .before .before .before .before .before .before .pre in
+    let q = c .before .before .before .before .before .before .before .before .before .before .before .before .before .before .before .before .before .before .before .before .before .before .before .before .before .before .before .before .before .before .before .before .before .before .before .before .before .before .before .before .before .before .before .before .before .before .before .before .before .before .before .before .before .pre in
     let h = q .10 in
     let room = q .8 in
     let size = c .before .before .before .before .before .before .before .before .before .before .before .before .before .before .before .before .before .before .before .before .before .before .before .before .before .before .before .before .before .before .before .before .before .before .before .items .given in
     let known = know f h i (c .before .before .before .before .before .before .before .before .before .before .before .before .before .before .before .before .before .before .before .before .before .before .before .before .before .before .before .before .before .before .before .before .before .before .before .before .before .before .before .attributes .ensures (q .2)) (c .before .before .before .before .before .before .before .before .before .before .before .before .before .before .before .before .before .before .before .before .before .before .before .before .before .before .before .before .before .before .before .before .before .before .before .before .before .before .below .ensures) (omega arith) (c .before .before .before .before .before .before .before .before .before .before .before .before .before .before .before .before .before .before .before .before .before .before .before .before .before .before .before .before .before .before .before .before .before .before .before .before .children .ensures (q .9) h) (c .before .before .before .before .before .before .before .before .before .before .before .before .before .before .before .before .before .before .before .before .before .before .before .before .before .before .before .before .to-items .ensures) (c .before .before .before .before .before .before .before .before .before .before .before .before .before .before .before .before .before .before .before .before .before .before .before .before .before .before .before .before .before .before .before .before .of-kind .ensures) (c .before .before .before .before .before .before .before .before .before .before .before .before .before .before .before .before .before .before .before .before .before .before .before .before .before .before .before .before .before .before .of-kind2 .ensures) in
     let ready = c .before .before .before .before .before .before .before .before .before .before .before .before .before .before .before .before .before .before .before .before .before .before .before .content-of .ensures .ready bytes ends _ _ _ _ _ _ _ _ known in
     let content = c .before .before .before .before .before .before .before .before .before .before .before .before .before .before .before .before .before .before .before .first-items .ensures in
-    c .before .before .before .before .before .before .before .before .before .before .before .before .pair-items .ensures bytes ends (rw content (ready .given)) i (rw content (ready .shown))
+    c .before .before .before .before .before .before .before .before .before .before .before .before .pair-row .ensures bytes ends (rw content ready) i
 
 pub pair-element-spec : {M : Type 1} → statement M
 pair-element-spec =
@@ -101,7 +101,7 @@ pair-element-spec =
     returns
     content-of-requires
     first-items-requires
-    pair-items-requires
+    pair-row-requires
     same-length-2
     same-length-3
     same-length-4

@@ -1,55 +1,41 @@
+-- One that is no element has no entry.
 use Rattle.pairs.proofs.Entries.{filling-row, filling-past}
 use mathlib.Core.Path.{sym, _∙_}
 use borrow.Author.Tests.{eq-eqb, ne-eqb}
 use borrow.Author.Needs.{needs}
 use Rattle.pairs.proofs.pair_node.Statement.{statement}
 use Rattle.pairs.proofs.pair_node.Tie as tie
-use Rattle.pairs.proofs.pair_node.Reads as reads
-use Rattle.pairs.proofs.pair_node.Lts as lts
-use Rattle.instance.proofs.kind.Reads as kind-reads
-use Rattle.pairs.proofs.pair_element.Reads as pair-element-reads
 
--- src/lib.rt:412:8
 kind-requires : tie.Need-kind-requires
 kind-requires c κs = search needs
 
--- src/lib.rt:413:9
 returns : tie.Need-returns
 returns c = λ bytes ends f. filling-past (ne-eqb _ 1 (λ z. c .if1 .taken (c .before .kind .ensures ∙ z))) f
 
--- src/lib.rt:415:5
 pair-element-requires : tie.Need-pair-element-requires
 pair-element-requires c κs = search needs
 
--- src/lib.rt:394:1
 same-length : tie.Need-same-length
 same-length c = search needs
 
--- src/lib.rt:394:1
 same-length-2 : tie.Need-same-length-2
 same-length-2 c = search needs
 
--- src/lib.rt:394:1
 same-length-3 : tie.Need-same-length-3
 same-length-3 c = search needs
 
--- src/lib.rt:394:1
 same-length-4 : tie.Need-same-length-4
 same-length-4 c = search needs
 
--- src/lib.rt:394:1
 same-length-5 : tie.Need-same-length-5
 same-length-5 c = search needs
 
--- src/lib.rt:394:1
 same-length-6 : tie.Need-same-length-6
 same-length-6 c = search needs
 
--- src/lib.rt:394:1
 same-length-7 : tie.Need-same-length-7
 same-length-7 c = search needs
 
--- src/lib.rt:394:1
 returns-2 : tie.Need-returns-2
 returns-2 c = λ bytes ends f. filling-row f (c .before .before .before .before .before .before .before .before .before .before .before .before .before .before .pair-element .ensures bytes ends f (eq-eqb _ 1 (sym (c .before .before .before .before .before .before .before .before .before .before .before .before .before .before .before .before .before .before .before .before .before .before .before .kind .ensures) ∙ c .before .before .before .before .before .before .before .before .before .before .before .before .before .before .before .before .before .before .before .before .before .before .if1 .left)))
 

@@ -11,12 +11,6 @@ use Prim.Native.Nat.{ℕ, _-_, _≤_}
 use borrow.Author.Needs.{needs}
 use Rattle.pairs.proofs.solid.Statement.{statement}
 use Rattle.pairs.proofs.solid.Tie as tie
-use Rattle.pairs.proofs.solid.Reads as reads
-use Rattle.pairs.proofs.solid.Lts as lts
-use Rattle.marks.proofs.add_if.Reads as add-if-reads
-use Rattle.sets.proofs.has.Reads as has-reads
-use Rattle.tables.proofs.byte.Reads as byte-reads
-use Rattle.tables.proofs.word.Reads as word-reads
 
 abbrev Inv-loop : tie.InvT-loop
 Inv-loop blank items texts set₀ k₀ set k = (k ≤ length items) × Collects (isSolid blank items texts) k set
@@ -24,51 +18,39 @@ Inv-loop blank items texts set₀ k₀ set k = (k ≤ length items) × Collects 
 abbrev μ-loop : tie.MeasureT-loop
 μ-loop blank items texts set₀ k₀ set k = length items - k
 
--- src/lib.rt:144:5
 loop-holds : tie.Need-loop-holds Inv-loop μ-loop
 loop-holds c = (omega arith, collects-none _)
 
--- src/lib.rt:144:12
 cast-loop : tie.Need-cast-loop Inv-loop μ-loop
 cast-loop c = search needs
 
--- src/lib.rt:145:40
 cast-word : tie.Need-cast-word Inv-loop μ-loop
 cast-word c = search needs
 
--- src/lib.rt:145:13
 word-requires : tie.Need-word-requires Inv-loop μ-loop
 word-requires c κs = search needs
 
--- src/lib.rt:146:21
 has-requires : tie.Need-has-requires Inv-loop μ-loop
 has-requires c κs = search needs
 
--- src/lib.rt:146:64
 cast-byte : tie.Need-cast-byte Inv-loop μ-loop
 cast-byte c = search needs
 
--- src/lib.rt:146:44
 byte-requires : tie.Need-byte-requires Inv-loop μ-loop
 byte-requires c κs = search needs
 
--- src/lib.rt:147:9
 add-if-requires : tie.Need-add-if-requires Inv-loop μ-loop
 add-if-requires c κs = search needs
 
--- src/lib.rt:148:9
 add-k : tie.Need-add-k Inv-loop μ-loop
 add-k c = search needs
 
--- src/lib.rt:144:5
 loop-less : tie.Need-loop-less Inv-loop μ-loop
 loop-less c = search needs
 
--- src/lib.rt:144:5
 loop-again : tie.Need-loop-again Inv-loop μ-loop
 loop-again c = (omega arith, collects-more {b = not (c .before .before .has .result && eqb (c .before .byte .result) 1)} (c .before .before .before .before .before .loop .inv .1) (rw (c .before .before .has .ensures, c .before .byte .ensures, c .before .before .before .word .ensures)) (c .add-if .ensures))
 
--- src/lib.rt:138:1
 returns : tie.Need-returns Inv-loop μ-loop
 returns c = let i = c .before .loop .inv in let e : c .before .loop .k ≡ length (now (c .before .before .before .before .args .items)) = omega (arith, i .0) in rw e at (i .1)
 
