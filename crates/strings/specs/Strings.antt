@@ -1,6 +1,6 @@
 -- The string table and its rule, from document 01, "Strings", and code 1 of its table of codes.
 -- A table is its bytes and the list of its ends, one end for each string.
-use Prim.Native.Nat.{ℕ, zero, suc, _≤_, _<_}
+use Prim.Native.Nat.{ℕ, zero, suc, _<_}
 use mathlib.Core.Path.{_≡_}
 use mathlib.Core.Logic.{_≢_}
 use mathlib.Core.List.{List}

@@ -6,6 +6,7 @@ ghost use lib.ListN.{length};
 ghost use Rattle.tables.specs.Answers.{Decides, Finds};
 ghost use Rattle.tables.specs.Place.{Part};
 ghost use Rattle.strings.specs.Strings.{startOf, endOf, Falls, Repeats, FrontFault, EndFault, StringFault, maxStrings};
+ghost use Rattle.strings.specs.Chains.{hashOf, hashAt, LastOf, Linked};
 ghost use Rattle.strings.specs.Text.{StringText};
 
 pub const MAX_STRINGS: usize = 512;
@@ -47,32 +48,49 @@ fn first_fall(ends: &[u32]) -> Checked
     Checked::Fine
 }
 
-// Whether a string before k has the text of string k.
-fn repeats(bytes: &[u8], ends: &[u32], k: usize) -> bool
-    requires { ⌜ k < length (now ends) ⌝ }
+// A number below 512 of a text: texts with different numbers differ.
+fn hash(text: &[u8]) -> usize
+    ensures { λ r. ⌜ r ≡ hashOf (now (text .entry)) ⌝ }
+{
+    let first = tables::byte(text, 0) as usize;
+    let second = tables::byte(text, 1) as usize;
+    let middle = tables::byte(text, text.len() / 2) as usize;
+    (text.len() % 512 + first * 37 + second * 17 + middle * 5) % 512
+}
+
+// Whether a string before k has the text of string k. Only strings with its hash can; they are visited from the last one on, whose number is one less than `last`.
+fn repeats(bytes: &[u8], ends: &[u32], prior: &[u32; 512], last: u32, k: usize) -> bool
+    requires { ⌜ (k < length (now ends)) × (k < 512) × LastOf (now bytes) (now ends) (hashAt (now bytes) (now ends) k) k last × Linked (now bytes) (now ends) (now prior) k ⌝ }
     ensures { λ r. ⌜ Decides (Repeats (now (bytes .entry)) (now (ends .entry)) k) r ⌝ }
 {
     let own = text(bytes, ends, k);
-    let mut j = 0;
-    while j < k {
+    let mut m = last;
+    while 0 < m {
+        let j = m as usize - 1;
         if tables::same_bytes(text(bytes, ends, j), own) {
             return true;
         }
-        j += 1;
+        m = prior[j];
     }
     false
 }
 
-// The first string that has the text of one before it.
+// The first string that has the text of one before it. For each hash, `last` has one more than the number of the last string with it, and 0 where there is none; `prior` has for each string what `last` had for its hash.
 fn first_repeat(bytes: &[u8], ends: &[u32]) -> Checked
     requires { ⌜ length (now ends) ≤ maxStrings ⌝ }
     ensures { λ r. ⌜ Finds (Repeats (now (bytes .entry)) (now (ends .entry))) r ⌝ }
 {
+    let mut last = [0u32; 512];
+    let mut prior = [0u32; 512];
     let mut k = 0;
     while k < ends.len() {
-        if repeats(bytes, ends, k) {
+        let h = hash(text(bytes, ends, k));
+        let m = last[h];
+        if repeats(bytes, ends, &prior, m, k) {
             return Checked::Fault(k as u32);
         }
+        prior[k] = m;
+        last[h] = k as u32 + 1;
         k += 1;
     }
     Checked::Fine

@@ -1,0 +1,29 @@
+-- The strings before one by their hash, as they are linked while repeated texts are looked for; cited by private functions only.
+use Prim.Native.Nat.{ℕ, suc, _+_, _*_, _/_, _%_, _≤_, _<_}
+use mathlib.Core.Path.{_≡_}
+use mathlib.Core.Logic.{_≢_}
+use mathlib.Core.List.{List}
+use lib.ListN.{length, getD}
+use Rattle.strings.specs.Strings.{textOf, maxStrings}
+
+-- a number below 512 of a text
+unfoldable pub hashOf : List ℕ → ℕ
+hashOf l = (length l % 512 + getD l 0 0 * 37 + getD l 1 0 * 17 + getD l (length l / 2) 0 * 5) % 512
+
+abbrev pub hashAt : List ℕ → List ℕ → ℕ → ℕ
+hashAt bytes ends k = hashOf (textOf bytes ends k)
+
+-- m is one more than the last string before n with hash h, and 0 where there is none
+pub record LastOf (bytes ends : List ℕ) (h n m : ℕ) : Type 0 where
+  pub low : m ≤ n
+  pub same : (j : ℕ) → suc j ≡ m → hashAt bytes ends j ≡ h
+  pub later : (i : ℕ) → m ≤ i → i < n → hashAt bytes ends i ≢ h
+
+-- each string before n is linked to the last one before it with its hash
+abbrev pub Linked : (bytes ends prior : List ℕ) (n : ℕ) → Type 0
+Linked bytes ends prior n = (q : ℕ) → q < n → LastOf bytes ends (hashAt bytes ends q) q (getD prior q 0)
+
+-- the last string before n with each hash
+pub record Lasts (bytes ends last : List ℕ) (n : ℕ) : Type 0 where
+  pub size : length last ≡ maxStrings
+  pub each : (h : ℕ) → h < maxStrings → LastOf bytes ends h n (getD last h 0)
