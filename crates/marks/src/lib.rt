@@ -318,7 +318,7 @@ fn second_operand(schema: &[u32], p: u32) -> u32
     }
 }
 
-// The words of the rows in the pattern at row q, if that is smaller than p.
+// The words of the rows in the pattern at row q, if that is smaller than p, as every operand of p is in a schema that passes.
 fn mark_smaller(
     schema: &[u32],
     instance: &[u32],

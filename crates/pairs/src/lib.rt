@@ -66,7 +66,7 @@ fn content_fits(
     false
 }
 
-// The entry of element e and definition d: its pattern is marked, and then related.
+// The entry of element e and definition d. The words of its pattern are wanted only where its class has the name of e.
 fn pair_at(
     schema: &[u32],
     instance: &[u32],
