@@ -22,7 +22,7 @@ use Rattle.rules.proofs.Passing.{restricted}
 use Rattle.rules.proofs.Reach.{Part, operand, repeated, choice-first, choice-second, group-first, group-second, interleave-first, interleave-second, of-except}
 use Rattle.rules.proofs.RowPatterns.{Makes, makes-empty, makes-notAllowed, makes-text, makes-data, makes-except, makes-value, makes-attribute, makes-ref, makes-oneOrMore, makes-choice, makes-group, makes-interleave, makes-none, row-makes}
 use Rattle.rules.proofs.Strata.{not-match}
-use Rattle.alone.specs.Alone.{entry, TellsString, Alone}
+use Rattle.alone.specs.Alone.{TellsString, Alone}
 use Rattle.alone.specs.Rows.{EitherOf, DataEntry, OneSide, OneOf, EqualTo, SameRow, NothingAt, StringAt}
 use Rattle.alone.proofs.Short.{Either, null-group, null-interleave, lone-group, lone-interleave, null-oneOrMore, lone-oneOrMore, null-choice, lone-choice, not-none, no-element, some-element}
 

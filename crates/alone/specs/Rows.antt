@@ -8,6 +8,7 @@ use Rattle.schema.specs.Kinds as kind
 use Rattle.schema.specs.Rows.{kindOf, aOf, bOf}
 use Rattle.strings.specs.Strings.{textOf, maxStrings}
 use Rattle.restrictions.proofs.Passes.{SchemaPasses}
+use Rattle.datatypes.specs.Whitespace.{trimStart}
 use Rattle.rules.specs.Job.{datatypeEqual}
 use Rattle.alone.specs.Alone.{entry, TellsString, TellsNothing, Alone}
 
@@ -41,6 +42,14 @@ pub record SameRow (s : List ℕ) (q p : ℕ) : Type 0 where
   pub is-value : kindOf s q ≡ kind.value
   pub same-datatype : aOf s q ≡ aOf s p
   pub same-string : bOf s q ≡ bOf s p
+
+-- the first character of a text that is no whitespace character, 0 where there is none
+abbrev pub leadOf : List ℕ → ℕ
+leadOf text = getD (trimStart text) 0 0
+
+-- the leads of the first n strings
+abbrev pub LeadsTo : (bytes ends leads : List ℕ) (n : ℕ) → Type 0
+LeadsTo bytes ends leads n = (k : ℕ) → k < n → getD leads k 0 ≡ leadOf (textOf bytes ends k)
 
 -- the answer for the empty sequence at row p, where the rows below are right
 abbrev pub NothingAt : (s nothing : List ℕ) (p v : ℕ) → Type 0

@@ -12,7 +12,7 @@ ghost use Rattle.rules.specs.Job.{datatypeEqual};
 ghost use Rattle.schema.specs.Kinds.{none, value};
 ghost use Rattle.schema.specs.Rows.{kindOf};
 ghost use Rattle.alone.specs.Alone.{Blank, Alone, Ready, Filled};
-ghost use Rattle.alone.specs.Rows.{EitherOf, NotOf, DataEntry, OneOf, EqualTo, SameRow, NothingAt, RowOf, RowMade};
+ghost use Rattle.alone.specs.Rows.{EitherOf, NotOf, DataEntry, OneOf, EqualTo, SameRow, leadOf, LeadsTo, NothingAt, RowOf, RowMade};
 
 fn either(x: u8, y: u8) -> u8
     ensures { λ r. ⌜ (r ≡ 1) ↔ ((x ≡ 1) ⊎ (y ≡ 1)) ⌝ }
@@ -79,6 +79,45 @@ fn nothing_at(schema: &[u32], nothing: &[u8], p: u32) -> u8
         12 => both(a, b),
         _ => 0,
     }
+}
+
+// The first character of a text that is no whitespace character, 0 where there is none.
+fn lead(text: &[u8]) -> u8
+    ensures { λ r. ⌜ r ≡ leadOf (now (text .entry)) ⌝ }
+{
+    tables::byte(text, datatypes::skip_space(text, 0))
+}
+
+// The lead of each string.
+fn fill_leads(bytes: &[u8], ends: &[u32], leads: &mut [u8])
+    requires { ⌜ (length (now ends) ≤ 512) × (512 ≤ length (now leads)) ⌝ }
+    ensures { λ _. ⌜ LeadsTo (now (bytes .entry)) (now (ends .entry)) (now (leads .exit)) (length (now (ends .entry))) ⌝ }
+{
+    let mut k: usize = 0;
+    while k < ends.len() {
+        let v = lead(strings::text(bytes, ends, k));
+        leads[k] = v;
+        k += 1;
+    }
+}
+
+// Whether string k is one value with the text own, whose lead is first: it can be only with the same lead.
+fn equal_at(
+    bytes: &[u8],
+    ends: &[u32],
+    leads: &[u8],
+    datatype: u32,
+    own: &[u8],
+    first: u8,
+    k: usize,
+) -> u8
+    requires { ⌜ (first ≡ leadOf (now own)) × (getD (now leads) k 0 ≡ leadOf (textOf (now bytes) (now ends) k)) ⌝ }
+    ensures { λ r. ⌜ (r ≡ 1) ↔ datatypeEqual datatype (textOf (now (bytes .entry)) (now (ends .entry)) k) (now (own .entry)) ⌝ }
+{
+    if tables::byte(leads, k) != first {
+        return 0;
+    }
+    same_value(datatype, strings::text(bytes, ends, k), own)
 }
 
 // The first n entries of row p become v.
@@ -167,15 +206,24 @@ fn fill_one(alone: &mut [u8], nothing: &[u8], p: u32, n: usize, a: u32, b: u32)
 }
 
 // The entries of a value: the strings that are one value with string v.
-fn fill_equal(bytes: &[u8], ends: &[u32], alone: &mut [u8], p: u32, datatype: u32, v: u32)
-    requires { ⌜ (p < 512) × (length (now ends) ≤ 512) × (262144 ≤ length (now alone)) ⌝ }
+fn fill_equal(
+    bytes: &[u8],
+    ends: &[u32],
+    leads: &[u8],
+    alone: &mut [u8],
+    p: u32,
+    datatype: u32,
+    v: u32,
+)
+    requires { ⌜ (p < 512) × (length (now ends) ≤ 512) × (262144 ≤ length (now alone)) × LeadsTo (now bytes) (now ends) (now leads) (length (now ends)) ⌝ }
     ensures { λ _. ⌜ RowOf (EqualTo (now (bytes .entry)) (now (ends .entry)) datatype v) (now (alone .entry)) (now (alone .exit)) p (length (now (ends .entry))) ⌝ }
 {
     let own = strings::text(bytes, ends, v as usize);
+    let first = lead(own);
     let to = p as usize * 512;
     let mut k: usize = 0;
     while k < ends.len() {
-        let x = same_value(datatype, strings::text(bytes, ends, k), own);
+        let x = equal_at(bytes, ends, leads, datatype, own, first, k);
         alone[to + k] = x;
         k += 1;
     }
@@ -209,11 +257,12 @@ fn fill_value(
     bytes: &[u8],
     ends: &[u32],
     schema: &[u32],
+    leads: &[u8],
     alone: &mut [u8],
     noted: &mut [u32; 1024],
     p: u32,
 )
-    requires { ⌜ (p < 512) × (length (now ends) ≤ 512) × (262144 ≤ length (now alone)) ⌝ }
+    requires { ⌜ (p < 512) × (length (now ends) ≤ 512) × (262144 ≤ length (now alone)) × LeadsTo (now bytes) (now ends) (now leads) (length (now ends)) ⌝ }
     ensures { λ _. ⌜ ((nothing : List ℕ) → kindOf (now (schema .entry)) p ≡ value → RowMade (now (bytes .entry)) (now (ends .entry)) (now (schema .entry)) (now (alone .entry)) nothing (now (alone .exit)) p) ⌝ }
 {
     let a = schema::field_a(schema, p);
@@ -225,7 +274,7 @@ fn fill_value(
         return;
     }
     noted[at] = p;
-    fill_equal(bytes, ends, alone, p, a, b);
+    fill_equal(bytes, ends, leads, alone, p, a, b);
 }
 
 // The entries of the row of pattern p.
@@ -233,12 +282,13 @@ fn fill_row(
     bytes: &[u8],
     ends: &[u32],
     schema: &[u32],
+    leads: &[u8],
     alone: &mut [u8],
     nothing: &[u8],
     noted: &mut [u32; 1024],
     p: u32,
 )
-    requires { ⌜ (p < 512) × (length (now ends) ≤ 512) × (262144 ≤ length (now alone)) ⌝ }
+    requires { ⌜ (p < 512) × (length (now ends) ≤ 512) × (262144 ≤ length (now alone)) × LeadsTo (now bytes) (now ends) (now leads) (length (now ends)) ⌝ }
     ensures { λ _. ⌜ RowMade (now (bytes .entry)) (now (ends .entry)) (now (schema .entry)) (now (alone .entry)) (now (nothing .entry)) (now (alone .exit)) p ⌝ }
 {
     let kind = schema::kind(schema, p);
@@ -248,7 +298,7 @@ fn fill_row(
     match kind {
         3 => fill_same(alone, p, n, 1),
         4 => fill_data(alone, p, n, b),
-        5 => fill_value(bytes, ends, schema, alone, noted, p),
+        5 => fill_value(bytes, ends, schema, leads, alone, noted, p),
         9 => fill_either(alone, p, n, a, a),
         10 => fill_either(alone, p, n, a, b),
         11 => fill_one(alone, nothing, p, n, a, b),
@@ -269,11 +319,13 @@ fn fill_rows(
     requires { ⌜ (rows ≤ 512) × (length (now ends) ≤ 512) × (262144 ≤ length (now alone)) × (512 ≤ length (now nothing)) ⌝ }
     ensures { λ _. ⌜ (SchemaPasses (length (now (ends .entry))) (now (schema .entry)) → Alone (now (bytes .entry)) (now (ends .entry)) (now (schema .entry)) (now (alone .exit)) (now (nothing .exit)) rows) ⌝ }
 {
+    let mut leads = [0u8; 512];
+    fill_leads(bytes, ends, &mut leads);
     let mut noted = [0u32; 1024];
     let mut p: u32 = 0;
     while p < rows {
         let v = nothing_at(schema, nothing, p);
-        fill_row(bytes, ends, schema, alone, nothing, &mut noted, p);
+        fill_row(bytes, ends, schema, &leads, alone, nothing, &mut noted, p);
         nothing[p as usize] = v;
         p += 1;
     }

@@ -18,7 +18,7 @@ pub fn is_space(c: u8) -> bool
 }
 
 // The first position from a given one on where no whitespace character stands.
-fn skip_space(s: &[u8], from: usize) -> usize
+pub fn skip_space(s: &[u8], from: usize) -> usize
     ensures { λ r. ⌜ Skips (now (s .entry)) from r ⌝ }
 {
     let mut i = from;

@@ -1,22 +1,24 @@
 -- The first k entries are told by the texts.
 use Rattle.alone.proofs.Filling.{row-none, row-more, row-less}
-use Rattle.alone.specs.Rows.{EqualTo}
+use Rattle.alone.specs.Rows.{EqualTo, RowOf}
 use lib.ListN.{length}
 use Prim.Native.Nat.{_-_, _≤_}
-use Rattle.alone.specs.Rows.{RowOf}
 use borrow.Author.Needs.{needs}
 use native.Mathlib.Omega.{arith}
 use Rattle.alone.proofs.fill_equal.Statement.{statement}
 use Rattle.alone.proofs.fill_equal.Tie as tie
 
 abbrev Inv-loop : tie.InvT-loop
-Inv-loop bytes ends alone₀ p datatype v own to k₀ alone k = (k ≤ length ends) × RowOf (EqualTo bytes ends datatype v) alone₀ alone p k
+Inv-loop bytes ends leads alone₀ p datatype v own first to k₀ alone k = (k ≤ length ends) × RowOf (EqualTo bytes ends datatype v) alone₀ alone p k
 
 abbrev μ-loop : tie.MeasureT-loop
-μ-loop bytes ends alone₀ p datatype v own to k₀ alone k = length ends - k
+μ-loop bytes ends leads alone₀ p datatype v own first to k₀ alone k = length ends - k
 
 text-requires : tie.Need-text-requires Inv-loop μ-loop
 text-requires c κs = search needs
+
+lead-requires : tie.Need-lead-requires Inv-loop μ-loop
+lead-requires c κs = search needs
 
 mul-to : tie.Need-mul-to Inv-loop μ-loop
 mul-to c = search needs
@@ -24,26 +26,23 @@ mul-to c = search needs
 loop-holds : tie.Need-loop-holds Inv-loop μ-loop
 loop-holds c = (omega arith, row-none _)
 
-text-requires-2 : tie.Need-text-requires-2 Inv-loop μ-loop
-text-requires-2 c κs = search needs
-
-same-value-requires : tie.Need-same-value-requires Inv-loop μ-loop
-same-value-requires c κs = search needs
+equal-at-requires : tie.Need-equal-at-requires Inv-loop μ-loop
+equal-at-requires c κs = (c .before .before .lead .ensures, c .before .before .before .before .before .before .before .before .pre .3 (c .before .loop .k) (omega arith))
 
 add-alone : tie.Need-add-alone Inv-loop μ-loop
-add-alone c = let i = c .before .before .before .loop .inv in let x = i .0 in omega arith
+add-alone c = let i = c .before .before .loop .inv in let x = i .0 in omega arith
 
 slice-write-alone : tie.Need-slice-write-alone Inv-loop μ-loop
-slice-write-alone c = let i = c .before .before .before .loop .inv in let x = i .0 in let y = i .1 .size in omega arith
+slice-write-alone c = let i = c .before .before .loop .inv in let x = i .0 in let y = i .1 .size in omega arith
 
 add-k : tie.Need-add-k Inv-loop μ-loop
-add-k c = let i = c .before .before .before .loop .inv in let x = i .0 in omega arith
+add-k c = let i = c .before .before .loop .inv in let x = i .0 in omega arith
 
 loop-less : tie.Need-loop-less Inv-loop μ-loop
 loop-less c = omega arith
 
 loop-again : tie.Need-loop-again Inv-loop μ-loop
-loop-again c = let i = c .before .before .before .loop .inv in let x = i .0 in let y = i .1 .size in (omega arith, row-more _ (omega arith) (rw (c .before .text2 .ensures .holds, c .before .before .before .before .text .ensures .holds) at (c .same-value .ensures)) (i .1))
+loop-again c = let i = c .before .before .loop .inv in let x = i .0 in let y = i .1 .size in (omega arith, row-more _ (omega arith) (rw (c .before .before .before .before .text .ensures .holds) at (c .equal-at .ensures)) (i .1))
 
 same-length : tie.Need-same-length Inv-loop μ-loop
 same-length c = c .before .loop .inv .1 .size
@@ -58,10 +57,10 @@ fill-equal-spec =
     Inv-loop
     μ-loop
     text-requires
+    lead-requires
     mul-to
     loop-holds
-    text-requires-2
-    same-value-requires
+    equal-at-requires
     add-alone
     slice-write-alone
     add-k
