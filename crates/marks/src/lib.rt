@@ -64,11 +64,13 @@ fn attribute_named(schema: &[u32], instance: &[u32], e: u32, c: u32, x: u32) -> 
     )
 }
 
-// A set with or without position k.
+// A set with position k too, if so said; a position past the word is not added.
 pub fn add_if(set: u64, k: u32, yes: bool) -> u64
-    requires { ⌜ k < 64 ⌝ }
-    ensures { λ r. ⌜ r ≡ cond yes (bitOr set (2 ^ k)) set ⌝ }
+    ensures { λ r. ⌜ (k < 64 → r ≡ cond yes (bitOr set (2 ^ k)) set) ⌝ }
 {
+    if 64 <= k {
+        return set;
+    }
     if yes {
         return set | 1u64 << k;
     }

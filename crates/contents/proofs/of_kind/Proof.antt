@@ -54,7 +54,7 @@ loop-less c = search needs
 
 -- src/lib.rt:86:5
 loop-again : tie.Need-loop-again Inv-loop μ-loop
-loop-again c = (omega arith, collects-more {b = eqb (c .before .kind .result) (c .before .before .before .before .before .before .before .before .args .kind)} (c .before .before .before .before .loop .inv .1) (rw (c .before .kind .ensures, c .before .before .word .ensures)) (c .add-if .ensures))
+loop-again c = (omega arith, collects-more {b = eqb (c .before .kind .result) (c .before .before .before .before .before .before .before .before .args .kind)} (c .before .before .before .before .loop .inv .1) (rw (c .before .kind .ensures, c .before .before .word .ensures)) (c .add-if .ensures (omega arith)))
 
 -- src/lib.rt:78:1
 returns-2 : tie.Need-returns-2 Inv-loop μ-loop

@@ -3,15 +3,19 @@ use Rattle.marks.proofs.add_if.Statement.{statement}
 use Rattle.marks.proofs.add_if.Tie as tie
 use Rattle.sets.proofs.Bits.{one-shl}
 use borrow.Author.Needs.{needs}
+use native.Mathlib.Omega.{arith}
+
+returns : tie.Need-returns
+returns c h = absurd (omega arith)
 
 shl-result : tie.Need-shl-result
 shl-result c = search needs
 
-returns : tie.Need-returns
-returns c = rw (c .if1 .taken, one-shl (c .before .args .k) (c .before .pre))
-
 returns-2 : tie.Need-returns-2
-returns-2 c = search needs
+returns-2 c h = rw (c .if2 .taken, one-shl (c .before .before .args .k) h)
+
+returns-3 : tie.Need-returns-3
+returns-3 c h = rw (c .if2 .left)
 
 pub add-if-spec : {M : Type 1} → statement M
-add-if-spec = tie.close (tie.spec shl-result returns returns-2)
+add-if-spec = tie.close (tie.spec returns shl-result returns-2 returns-3)
