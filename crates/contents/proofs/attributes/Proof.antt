@@ -15,43 +15,33 @@ Inv-loop instance e x₀ x = (x ≤ 64) × AttributesTo instance e x
 abbrev μ-loop : tie.MeasureT-loop
 μ-loop instance e x₀ x = 64 - x
 
--- src/lib.rt:35:9
 returns : tie.Need-returns Inv-loop μ-loop
 returns c = λ h. absurd (omega arith)
 
--- src/lib.rt:38:5
 loop-holds : tie.Need-loop-holds Inv-loop μ-loop
 loop-holds c = (omega arith, λ y h. absurd (omega arith))
 
--- src/lib.rt:39:39
 add-is-attribute : tie.Need-add-is-attribute Inv-loop μ-loop
 add-is-attribute c = search needs
 
--- src/lib.rt:39:39
 add-is-attribute-2 : tie.Need-add-is-attribute-2 Inv-loop μ-loop
 add-is-attribute-2 c = search needs
 
--- src/lib.rt:39:13
 is-attribute-requires : tie.Need-is-attribute-requires Inv-loop μ-loop
 is-attribute-requires c κs = search needs
 
--- src/lib.rt:40:13
 returns-2 : tie.Need-returns-2 Inv-loop μ-loop
 returns-2 c = λ h. counted-last _ _ _ (c .before .is-attribute .ensures) (c .if2 .taken) (c .before .before .before .loop .inv .1)
 
--- src/lib.rt:42:9
 add-x : tie.Need-add-x Inv-loop μ-loop
 add-x c = search needs
 
--- src/lib.rt:38:5
 loop-less : tie.Need-loop-less Inv-loop μ-loop
 loop-less c = search needs
 
--- src/lib.rt:38:5
 loop-again : tie.Need-loop-again Inv-loop μ-loop
 loop-again c = (omega arith, counted-more (now (c .before .before .before .before .before .before .args .instance)) (c .before .before .before .before .before .before .args .e) _ (c .before .is-attribute .ensures) (c .if2 .left) (c .before .before .before .loop .inv .1))
 
--- src/lib.rt:31:1
 returns-3 : tie.Need-returns-3 Inv-loop μ-loop
 returns-3 c = λ h. counted-many _ _ _ (omega arith) (c .before .loop .inv .1)
 

@@ -7,19 +7,15 @@ use Rattle.contents.proofs.below.Tie as tie
 use Rattle.contents.proofs.below.Reads as reads
 use Rattle.contents.proofs.below.Lts as lts
 
--- src/lib.rt:58:9
 returns : tie.Need-returns
 returns c = λ h. absurd (omega arith)
 
--- src/lib.rt:60:6
 shl-result : tie.Need-shl-result
 shl-result c = search needs
 
--- src/lib.rt:60:5
 sub-result : tie.Need-sub-result
 sub-result c = let p = one-shl (c .before .args .n) (omega arith) in let q = pow-positive (c .before .args .n) in omega arith
 
--- src/lib.rt:54:1
 returns-2 : tie.Need-returns-2
 returns-2 c = λ h. collects-below _ h
 

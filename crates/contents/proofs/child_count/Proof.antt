@@ -5,15 +5,12 @@ use Rattle.contents.proofs.child_count.Reads as reads
 use Rattle.contents.proofs.child_count.Lts as lts
 use Rattle.contents.proofs.is_child.Reads as is-child-reads
 
--- src/lib.rt:30:8
 is-child-requires : tie.Need-is-child-requires
 is-child-requires c κs = search needs
 
--- src/lib.rt:31:9
 returns : tie.Need-returns
 returns c = rw (← c .before .is-child .ensures, c .if1 .taken)
 
--- src/lib.rt:27:1
 returns-2 : tie.Need-returns-2
 returns-2 c = rw (← c .before .is-child .ensures, c .if1 .left)
 

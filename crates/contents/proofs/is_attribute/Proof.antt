@@ -6,15 +6,12 @@ use Rattle.contents.proofs.is_attribute.Lts as lts
 use Rattle.instance.proofs.kind.Reads as kind-reads
 use Rattle.instance.proofs.parent.Reads as parent-reads
 
--- src/lib.rt:16:6
 parent-requires : tie.Need-parent-requires
 parent-requires c κs = search needs
 
--- src/lib.rt:16:45
 kind-requires : tie.Need-kind-requires
 kind-requires c κs = search needs
 
--- src/lib.rt:13:1
 returns : tie.Need-returns
 returns c = rw (c .before .parent .ensures, c .kind .ensures)
 

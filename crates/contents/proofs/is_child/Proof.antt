@@ -6,15 +6,12 @@ use Rattle.contents.proofs.is_child.Lts as lts
 use Rattle.instance.proofs.kind.Reads as kind-reads
 use Rattle.instance.proofs.parent.Reads as parent-reads
 
--- src/lib.rt:22:9
 kind-requires : tie.Need-kind-requires
 kind-requires c κs = search needs
 
--- src/lib.rt:23:6
 parent-requires : tie.Need-parent-requires
 parent-requires c κs = search needs
 
--- src/lib.rt:19:1
 returns : tie.Need-returns
 returns c = rw (c .parent .ensures, c .before .kind .ensures)
 

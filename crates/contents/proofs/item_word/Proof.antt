@@ -7,19 +7,15 @@ use Rattle.contents.proofs.item_word.Lts as lts
 use Rattle.instance.proofs.field_a.Reads as field-a-reads
 use Rattle.instance.proofs.kind.Reads as kind-reads
 
--- src/lib.rt:97:8
 kind-requires : tie.Need-kind-requires
 kind-requires c κs = search needs
 
--- src/lib.rt:98:9
 field-a-requires : tie.Need-field-a-requires
 field-a-requires c κs = search needs
 
--- src/lib.rt:98:9
 returns : tie.Need-returns
 returns c = rw (c .field-a .ensures, ← c .before .before .kind .ensures, eq-eqb _ 3 (c .before .if1 .taken))
 
--- src/lib.rt:94:1
 returns-2 : tie.Need-returns-2
 returns-2 c = rw (← c .before .kind .ensures, ne-eqb _ 3 (c .if1 .left))
 

@@ -20,43 +20,33 @@ Inv-loop instance rows n kind set₀ k₀ set k = (k ≤ n) × Collects (ofKind 
 abbrev μ-loop : tie.MeasureT-loop
 μ-loop instance rows n kind set₀ k₀ set k = n - k
 
--- src/lib.rt:82:9
 returns : tie.Need-returns Inv-loop μ-loop
 returns c = λ h. absurd (omega arith)
 
--- src/lib.rt:86:5
 loop-holds : tie.Need-loop-holds Inv-loop μ-loop
 loop-holds c = (omega arith, collects-none _)
 
--- src/lib.rt:87:38
 cast-word : tie.Need-cast-word Inv-loop μ-loop
 cast-word c = search needs
 
--- src/lib.rt:87:13
 word-requires : tie.Need-word-requires Inv-loop μ-loop
 word-requires c κs = search needs
 
--- src/lib.rt:88:37
 kind-requires : tie.Need-kind-requires Inv-loop μ-loop
 kind-requires c κs = search needs
 
--- src/lib.rt:88:9
 add-if-requires : tie.Need-add-if-requires Inv-loop μ-loop
 add-if-requires c κs = search needs
 
--- src/lib.rt:89:9
 add-k : tie.Need-add-k Inv-loop μ-loop
 add-k c = search needs
 
--- src/lib.rt:86:5
 loop-less : tie.Need-loop-less Inv-loop μ-loop
 loop-less c = search needs
 
--- src/lib.rt:86:5
 loop-again : tie.Need-loop-again Inv-loop μ-loop
 loop-again c = (omega arith, collects-more {b = eqb (c .before .kind .result) (c .before .before .before .before .before .before .before .before .args .kind)} (c .before .before .before .before .loop .inv .1) (rw (c .before .kind .ensures, c .before .before .word .ensures)) (c .add-if .ensures (omega arith)))
 
--- src/lib.rt:78:1
 returns-2 : tie.Need-returns-2 Inv-loop μ-loop
 returns-2 c = λ h. let e : c .before .loop .k ≡ c .before .before .before .before .before .args .n = omega arith in rw e at (c .before .loop .inv .1)
 

@@ -7,23 +7,18 @@ use Rattle.contents.proofs.store.Tie as tie
 use Rattle.contents.proofs.store.Reads as reads
 use Rattle.contents.proofs.store.Lts as lts
 
--- src/lib.rt:52:9
 mul-words : tie.Need-mul-words
 mul-words c = search needs
 
--- src/lib.rt:52:9
 slice-write-words : tie.Need-slice-write-words
 slice-write-words c = search needs
 
--- src/lib.rt:48:1
 same-length : tie.Need-same-length
 same-length c = search needs
 
--- src/lib.rt:48:1
 returns : tie.Need-returns
 returns c = search needs
 
--- src/lib.rt:48:1
 returns-2 : tie.Need-returns-2
 returns-2 c = sym (set-out _ _ _ (omega arith))
 

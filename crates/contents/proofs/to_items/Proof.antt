@@ -19,43 +19,33 @@ Inv-loop instance rows₀ n k₀ rows k = (k ≤ n) × Itemized instance rows₀
 abbrev μ-loop : tie.MeasureT-loop
 μ-loop instance rows₀ n k₀ rows k = n - k
 
--- src/lib.rt:108:5
 loop-holds : tie.Need-loop-holds Inv-loop μ-loop
 loop-holds c = (omega arith, itemized-none _ _)
 
--- src/lib.rt:109:56
 cast-word : tie.Need-cast-word Inv-loop μ-loop
 cast-word c = search needs
 
--- src/lib.rt:109:37
 word-requires : tie.Need-word-requires Inv-loop μ-loop
 word-requires c κs = search needs
 
--- src/lib.rt:109:13
 item-word-requires : tie.Need-item-word-requires Inv-loop μ-loop
 item-word-requires c κs = search needs
 
--- src/lib.rt:110:9
 store-requires : tie.Need-store-requires Inv-loop μ-loop
 store-requires c κs = search needs
 
--- src/lib.rt:111:9
 add-k : tie.Need-add-k Inv-loop μ-loop
 add-k c = search needs
 
--- src/lib.rt:108:5
 loop-less : tie.Need-loop-less Inv-loop μ-loop
 loop-less c = search needs
 
--- src/lib.rt:108:5
 loop-again : tie.Need-loop-again Inv-loop μ-loop
 loop-again c = (omega arith, itemized-more (now (c .before .before .before .before .before .before .before .before .before .before .before .args .instance)) (c .before .before .store .ensures) (c .before .before .before .before .item-word .ensures ∙ ap (itemWord (now (c .before .before .before .before .before .before .before .before .before .before .before .args .instance))) (c .before .before .before .before .before .word .ensures)) (c .before .before .before .before .before .before .before .before .loop .inv .1))
 
--- src/lib.rt:104:1
 same-length : tie.Need-same-length Inv-loop μ-loop
 same-length c = search needs
 
--- src/lib.rt:104:1
 returns : tie.Need-returns Inv-loop μ-loop
 returns c = let e : c .before .loop .k ≡ c .before .before .before .before .args .n = omega arith in rw e at (c .before .loop .inv .1)
 

@@ -8,15 +8,12 @@ use Rattle.definitions.proofs.definition_count.Reads as reads
 use Rattle.definitions.proofs.definition_count.Lts as lts
 use Rattle.schema.proofs.kind.Reads as kind-reads
 
--- src/lib.rt:14:8
 kind-requires : tie.Need-kind-requires
 kind-requires c κs = search needs
 
--- src/lib.rt:15:9
 returns : tie.Need-returns
 returns c = sym (count-one (now (c .before .before .before .args .schema)) (c .before .before .before .args .d) (sym (c .before .kind .ensures) ∙ c .if1 .taken))
 
--- src/lib.rt:11:1
 returns-2 : tie.Need-returns-2
 returns-2 c = sym (count-none (now (c .before .before .before .args .schema)) (c .before .before .before .args .d) (λ e. c .if1 .left (c .before .kind .ensures ∙ e)))
 

@@ -20,51 +20,39 @@ Inv-loop schema rows₀ all n₀ d₀ rows n d = (d ≤ all) × (length rows ≡
 abbrev μ-loop : tie.MeasureT-loop
 μ-loop schema rows₀ all n₀ d₀ rows n d = all - d
 
--- src/lib.rt:26:9
 returns : tie.Need-returns Inv-loop μ-loop
 returns c = (λ h l. absurd (omega arith), omega arith)
 
--- src/lib.rt:29:9
 returns-2 : tie.Need-returns-2 Inv-loop μ-loop
 returns-2 c = (λ h l. absurd (omega arith), omega arith)
 
--- src/lib.rt:33:5
 loop-holds : tie.Need-loop-holds Inv-loop μ-loop
 loop-holds c = (omega arith, refl, definitions-none _ _)
 
--- src/lib.rt:33:12
 cast-loop : tie.Need-cast-loop Inv-loop μ-loop
 cast-loop c = search needs
 
--- src/lib.rt:34:14
 cast-rows : tie.Need-cast-rows Inv-loop μ-loop
 cast-rows c = search needs
 
--- src/lib.rt:34:9
 mul-rows : tie.Need-mul-rows Inv-loop μ-loop
 mul-rows c = search needs
 
--- src/lib.rt:34:9
 slice-write-rows : tie.Need-slice-write-rows Inv-loop μ-loop
 slice-write-rows c = let i = c .before .loop .inv in let x = i .2 .few in let y = i .1 in omega arith
 
--- src/lib.rt:35:14
 definition-count-requires : tie.Need-definition-count-requires Inv-loop μ-loop
 definition-count-requires c κs = search needs
 
--- src/lib.rt:35:9
 add-n : tie.Need-add-n Inv-loop μ-loop
 add-n c = let i = c .before .before .loop .inv in let x = i .2 .few in let m = one-or-none (isDefinition (now (c .before .before .before .before .before .before .before .args .schema)) (c .before .before .loop .d)) (c .definition-count .ensures) in omega arith
 
--- src/lib.rt:36:9
 add-d : tie.Need-add-d Inv-loop μ-loop
 add-d c = search needs
 
--- src/lib.rt:33:5
 loop-less : tie.Need-loop-less Inv-loop μ-loop
 loop-less c = search needs
 
--- src/lib.rt:33:5
 loop-again : tie.Need-loop-again Inv-loop μ-loop
 loop-again c =
     let i = c .before .before .loop .inv in
@@ -72,11 +60,9 @@ loop-again c =
     let y = i .1 in
     (omega arith, length-set (c .before .before .loop .rows) (c .before .before .loop .n) (c .before .before .loop .d) ∙ i .1, definitions-more (i .2) (omega arith) (c .definition-count .ensures))
 
--- src/lib.rt:21:1
 same-length : tie.Need-same-length Inv-loop μ-loop
 same-length c = search needs
 
--- src/lib.rt:21:1
 returns-3 : tie.Need-returns-3 Inv-loop μ-loop
 returns-3 c =
     let i = c .before .loop .inv in

@@ -7,15 +7,12 @@ use Rattle.misplaced.proofs.check_places.Reads as reads
 use Rattle.misplaced.proofs.check_places.Lts as lts
 use Rattle.misplaced.proofs.first_misplaced.Reads as first-misplaced-reads
 
--- src/lib.rt:357:9
 returns : tie.Need-returns
 returns c = record { finds = λ h. absurd (omega arith); too-many = λ h. refl }
 
--- src/lib.rt:359:5
 first-misplaced-requires : tie.Need-first-misplaced-requires
 first-misplaced-requires c κs = search needs
 
--- src/lib.rt:353:1
 returns-2 : tie.Need-returns-2
 returns-2 c = record { finds = λ h. c .first-misplaced .ensures; too-many = λ h. absurd (omega arith) }
 

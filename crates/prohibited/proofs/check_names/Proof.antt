@@ -7,15 +7,12 @@ use Rattle.prohibited.proofs.check_names.Reads as reads
 use Rattle.prohibited.proofs.check_names.Lts as lts
 use Rattle.prohibited.proofs.first_name.Reads as first-name-reads
 
--- src/lib.rt:367:9
 returns : tie.Need-returns
 returns c = record { finds = λ h. absurd (omega arith); too-many = λ h. refl }
 
--- src/lib.rt:369:5
 first-name-requires : tie.Need-first-name-requires
 first-name-requires c κs = search needs
 
--- src/lib.rt:363:1
 returns-2 : tie.Need-returns-2
 returns-2 c = record { finds = λ h. c .first-name .ensures; too-many = λ h. absurd (omega arith) }
 

@@ -7,15 +7,12 @@ use Rattle.prohibited.proofs.check_paths.Reads as reads
 use Rattle.prohibited.proofs.check_paths.Lts as lts
 use Rattle.prohibited.proofs.first_prohibited.Reads as first-prohibited-reads
 
--- src/lib.rt:377:9
 returns : tie.Need-returns
 returns c = record { finds = λ h. absurd (omega arith); too-many = λ h. refl }
 
--- src/lib.rt:379:5
 first-prohibited-requires : tie.Need-first-prohibited-requires
 first-prohibited-requires c κs = search needs
 
--- src/lib.rt:373:1
 returns-2 : tie.Need-returns-2
 returns-2 c = record { finds = λ h. c .first-prohibited .ensures; too-many = λ h. absurd (omega arith) }
 

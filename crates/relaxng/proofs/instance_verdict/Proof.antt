@@ -10,49 +10,39 @@ use Rattle.width.proofs.check_width.Reads as check-width-reads
 use Rattle.relaxng.proofs.schema_verdict.Reads as schema-verdict-reads
 use Rattle.tables.proofs.refusal.Reads as refusal-reads
 
--- src/lib.rt:134:9
 schema-verdict-requires : tie.Need-schema-verdict-requires
 schema-verdict-requires c κs = search needs
 
 enum-told : tie.Need-enum-told
 enum-told c = search needs
 
--- src/lib.rt:136:9
 enum-told-2 : tie.Need-enum-told-2
 enum-told-2 c = search needs
 
--- src/lib.rt:136:9
 returns : tie.Need-returns
 returns c = instance-schema (c .enum-told2 .given .1) (c .before .before .schema-verdict .ensures)
 
--- src/lib.rt:138:9
 check-nodes-requires : tie.Need-check-nodes-requires
 check-nodes-requires c κs = search needs
 
 enum-told-3 : tie.Need-enum-told-3
 enum-told-3 c = search needs
 
--- src/lib.rt:140:9
 enum-told-4 : tie.Need-enum-told-4
 enum-told-4 c = search needs
 
--- src/lib.rt:140:9
 refusal-requires : tie.Need-refusal-requires
 refusal-requires c κs = search needs
 
--- src/lib.rt:140:9
 returns-2 : tie.Need-returns-2
 returns-2 c = nodes-stop (c .before .before .before .before .enum-told .given .1) (c .before .before .before .before .before .before .schema-verdict .ensures) (c .before .before .before .check-nodes .ensures) (c .before .enum-told4 .given .1) (c .refusal .ensures)
 
--- src/lib.rt:142:25
 check-width-requires : tie.Need-check-width-requires
 check-width-requires c κs = search needs
 
--- src/lib.rt:142:5
 refusal-requires-2 : tie.Need-refusal-requires-2
 refusal-requires-2 c κs = search needs
 
--- src/lib.rt:131:1
 returns-3 : tie.Need-returns-3
 returns-3 c = nodes-on (c .before .before .before .before .before .enum-told .given .1) (c .before .before .before .before .before .before .before .schema-verdict .ensures) (c .before .before .before .before .check-nodes .ensures) (c .before .before .enum-told3 .given .1) (c .before .check-width .ensures) (c .refusal2 .ensures)
 

@@ -19,86 +19,66 @@ use Rattle.relaxng.proofs.not_matched.Reads as not-matched-reads
 use Rattle.tables.proofs.zero_u32.Reads as zero-u32-reads
 use Rattle.validity.proofs.valid.Reads as valid-reads
 
--- src/lib.rt:203:9
 instance-verdict-requires : tie.Need-instance-verdict-requires
 instance-verdict-requires c κs = search needs
 
 enum-told : tie.Need-enum-told
 enum-told c = search needs
 
--- src/lib.rt:205:26
 enum-told-2 : tie.Need-enum-told-2
 enum-told-2 c = search needs
 
--- src/lib.rt:205:9
 zero-u32-requires : tie.Need-zero-u32-requires
 zero-u32-requires c κs = search needs
 
--- src/lib.rt:206:9
 not-matched-requires : tie.Need-not-matched-requires
 not-matched-requires c κs = search needs
 
--- src/lib.rt:206:9
 same-length : tie.Need-same-length
 same-length c = search needs
 
--- src/lib.rt:206:9
 returns : tie.Need-returns
 returns c = refused-list (c .before .before .before .before .before .before .before .instance-verdict .ensures) _ (c .before .before .before .before .before .enum-told2 .given .1) (c .not-matched .ensures ∙ ap notMatched (c .before .before .before .before .before .enum-told2 .given .1)) (c .before .before .before .zero-u32 .ensures)
 
--- src/lib.rt:209:54
 slice-aggregate-pair-table : tie.Need-slice-aggregate-pair-table
 slice-aggregate-pair-table c = search needs
 
--- src/lib.rt:209:5
 pair-table-requires : tie.Need-pair-table-requires
 pair-table-requires c κs = search needs
 
--- src/lib.rt:211:46
 slice-aggregate-definitions : tie.Need-slice-aggregate-definitions
 slice-aggregate-definitions c = search needs
 
--- src/lib.rt:211:13
 definitions-requires : tie.Need-definitions-requires
 definitions-requires c κs = search needs
 
--- src/lib.rt:211:13
 cast-n : tie.Need-cast-n
 cast-n c = search needs
 
--- src/lib.rt:213:38
 slice-aggregate-list-pairs : tie.Need-slice-aggregate-list-pairs
 slice-aggregate-list-pairs c = search needs
 
--- src/lib.rt:213:46
 array-share-prefix-rows : tie.Need-array-share-prefix-rows
 array-share-prefix-rows c = let n = c .before .before .definitions .ensures .1 in let l = c .before .rows2 .given in omega arith
 
--- src/lib.rt:213:46
 slice-aggregate-list-pairs-2 : tie.Need-slice-aggregate-list-pairs-2
 slice-aggregate-list-pairs-2 c = let n = c .before .before .before .definitions .ensures .1 in let l = c .before .before .rows2 .given in sym (length-take-le (c .before .before .before .definitions .result) (c .before .before .before .definitions .last .1 .0) (omega arith))
 
--- src/lib.rt:213:58
 cast-list-pairs : tie.Need-cast-list-pairs
 cast-list-pairs c = let n = nodes-few (c .before .before .before .before .before .before .before .before .enum-told .given .1) (c .before .before .before .before .before .before .before .before .before .before .instance-verdict .ensures) in omega arith
 
--- src/lib.rt:213:9
 list-pairs-requires : tie.Need-list-pairs-requires
 list-pairs-requires c κs = search needs
 
--- src/lib.rt:214:23
 enum-known-listed : tie.Need-enum-known-listed
 enum-known-listed c = search needs
 
--- src/lib.rt:215:9
 enum-told-3 : tie.Need-enum-told-3
 enum-told-3 c = search needs
 
--- src/lib.rt:215:9
 same-length-2 : tie.Need-same-length-2
 same-length-2 c = search needs
 
--- src/lib.rt:215:9
 returns-2 : tie.Need-returns-2
 returns-2 c =
     let long : 524288 ≤ length (replicate {A = ℕ} 524288 0) = subst⁻¹ (λ n. 524288 ≤ n) (length-replicate {A = ℕ} 524288 0) (omega arith) in
@@ -106,23 +86,18 @@ returns-2 c =
     let l = c .before .before .before .before .before .before .before .before .rows2 .given in
     short-list (c .before .before .before .before .before .before .before .before .before .before .before .before .before .before .before .before .instance-verdict .ensures) _ (c .before .before .before .before .before .before .before .before .before .before .before .before .before .before .enum-told .given .1) (λ p. c .before .before .before .before .before .before .before .before .before .before .before .before .pair-table .ensures long p) (λ h. c .before .before .before .before .before .before .before .before .before .definitions .ensures .0 h (omega arith)) (omega arith) refl (c .before .before .before .before .list-pairs .ensures) n (c .enum-told3 .given .1)
 
--- src/lib.rt:217:40
 slice-aggregate-valid : tie.Need-slice-aggregate-valid
 slice-aggregate-valid c = search needs
 
--- src/lib.rt:217:16
 valid-requires : tie.Need-valid-requires
 valid-requires c κs = search needs
 
--- src/lib.rt:217:5
 matches-of-requires : tie.Need-matches-of-requires
 matches-of-requires c κs = search needs
 
--- src/lib.rt:194:1
 same-length-3 : tie.Need-same-length-3
 same-length-3 c = search needs
 
--- src/lib.rt:194:1
 returns-3 : tie.Need-returns-3
 returns-3 c =
     let long : 524288 ≤ length (replicate {A = ℕ} 524288 0) = subst⁻¹ (λ n. 524288 ≤ n) (length-replicate {A = ℕ} 524288 0) (omega arith) in

@@ -3,11 +3,9 @@ use Rattle.relaxng.proofs.matches_of.Tie as tie
 use Rattle.relaxng.proofs.matches_of.Reads as reads
 use Rattle.relaxng.proofs.matches_of.Lts as lts
 
--- src/lib.rt:183:1
 returns : tie.Need-returns
 returns c = rw (c .if1 .taken)
 
--- src/lib.rt:183:1
 returns-2 : tie.Need-returns-2
 returns-2 c = rw (c .if1 .left)
 

@@ -15,48 +15,38 @@ use Rattle.relaxng.proofs.instance_verdict.Reads as instance-verdict-re
 use Rattle.relaxng.proofs.not_validated.Reads as not-validated-reads
 use Rattle.validity.proofs.valid.Reads as valid-reads
 
--- src/lib.rt:159:9
 instance-verdict-requires : tie.Need-instance-verdict-requires
 instance-verdict-requires c κs = search needs
 
 enum-told : tie.Need-enum-told
 enum-told c = search needs
 
--- src/lib.rt:161:9
 enum-told-2 : tie.Need-enum-told-2
 enum-told-2 c = search needs
 
--- src/lib.rt:161:9
 not-validated-requires : tie.Need-not-validated-requires
 not-validated-requires c κs = search needs
 
--- src/lib.rt:161:9
 returns : tie.Need-returns
 returns c = refused-verdict (c .before .before .before .instance-verdict .ensures) (c .before .enum-told2 .given .1) (c .not-validated .ensures)
 
--- src/lib.rt:164:54
 slice-aggregate-pair-table : tie.Need-slice-aggregate-pair-table
 slice-aggregate-pair-table c = search needs
 
--- src/lib.rt:164:5
 pair-table-requires : tie.Need-pair-table-requires
 pair-table-requires c κs = search needs
 
--- src/lib.rt:165:32
 slice-aggregate-valid : tie.Need-slice-aggregate-valid
 slice-aggregate-valid c = search needs
 
--- src/lib.rt:165:8
 valid-requires : tie.Need-valid-requires
 valid-requires c κs = search needs
 
--- src/lib.rt:156:1
 returns-2 : tie.Need-returns-2
 returns-2 c =
     let long : 524288 ≤ length (replicate {A = ℕ} 524288 0) = subst⁻¹ (λ n. 524288 ≤ n) (length-replicate {A = ℕ} 524288 0) (omega arith) in
     whole-verdict (c .before .before .before .before .before .before .before .before .instance-verdict .ensures) (c .before .before .before .before .before .before .enum-told .given .1) true (λ p. subst (Decides _) (c .if1 .taken) (c .before .valid .ensures _ _ _ p (c .before .before .before .before .pair-table .ensures long p))) refl
 
--- src/lib.rt:156:1
 returns-3 : tie.Need-returns-3
 returns-3 c =
     let long : 524288 ≤ length (replicate {A = ℕ} 524288 0) = subst⁻¹ (λ n. 524288 ≤ n) (length-replicate {A = ℕ} 524288 0) (omega arith) in

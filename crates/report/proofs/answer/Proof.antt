@@ -11,67 +11,51 @@ use Rattle.relaxng.proofs.match_list.Reads as match-list-reads
 use Rattle.report.proofs.write_pairs.Reads as write-pairs-reads
 use Rattle.texts.proofs.write_refusal.Reads as write-refusal-reads
 
--- src/lib.rt:24:70
 slice-aggregate-match-list : tie.Need-slice-aggregate-match-list
 slice-aggregate-match-list c = search needs
 
--- src/lib.rt:24:9
 match-list-requires : tie.Need-match-list-requires
 match-list-requires c κs = search needs
 
--- src/lib.rt:26:24
 enum-known-matches : tie.Need-enum-known-matches
 enum-known-matches c = search needs
 
--- src/lib.rt:26:52
 slice-aggregate-write-pairs : tie.Need-slice-aggregate-write-pairs
 slice-aggregate-write-pairs c = search needs
 
--- src/lib.rt:26:34
 write-pairs-requires : tie.Need-write-pairs-requires
 write-pairs-requires c κs = let e = c .before .before .before .matches .given .1 in let l = c .before .before .before .before .before .list2 .given in let f = pairs-fit (lent-list (c .before .before .before .before .before .before .match-list .ensures)) (ap matchesVerdict e) (ap pairCount e) in (omega arith, f)
 
--- src/lib.rt:27:27
 enum-known-matches-2 : tie.Need-enum-known-matches-2
 enum-known-matches-2 c = search needs
 
--- src/lib.rt:27:56
 slice-aggregate-write-pairs-2 : tie.Need-slice-aggregate-write-pairs-2
 slice-aggregate-write-pairs-2 c = search needs
 
--- src/lib.rt:27:37
 write-pairs-requires-2 : tie.Need-write-pairs-requires-2
 write-pairs-requires-2 c κs = let e = c .before .before .before .matches2 .given .1 in let l = c .before .before .before .before .before .list2 .given in let f = pairs-fit (lent-list (c .before .before .before .before .before .before .match-list .ensures)) (ap matchesVerdict e) (ap pairCount e) in (omega arith, f)
 
--- src/lib.rt:28:29
 enum-known-matches-3 : tie.Need-enum-known-matches-3
 enum-known-matches-3 c = search needs
 
--- src/lib.rt:28:45
 write-refusal-requires : tie.Need-write-refusal-requires
 write-refusal-requires c κs = search needs
 
--- src/lib.rt:20:1
 same-length : tie.Need-same-length
 same-length c = search needs
 
--- src/lib.rt:20:1
 returns : tie.Need-returns
 returns c = is-answered (lent-list (c .before .before .before .before .before .before .before .before .before .match-list .ensures)) (c .before .before .before .before .before .before .matches .given .1) (c .before .before .write-pairs .ensures)
 
--- src/lib.rt:20:1
 same-length-2 : tie.Need-same-length-2
 same-length-2 c = search needs
 
--- src/lib.rt:20:1
 returns-2 : tie.Need-returns-2
 returns-2 c = is-answered (lent-list (c .before .before .before .before .before .before .before .before .before .match-list .ensures)) (c .before .before .before .before .before .before .matches2 .given .1) (c .before .before .write-pairs2 .ensures)
 
--- src/lib.rt:20:1
 same-length-3 : tie.Need-same-length-3
 same-length-3 c = search needs
 
--- src/lib.rt:20:1
 returns-3 : tie.Need-returns-3
 returns-3 c = is-answered (lent-list (c .before .before .before .before .before .before .before .before .match-list .ensures)) (c .before .before .before .before .before .matches3 .given .1) (c .before .before .write-refusal .ensures)
 

@@ -12,111 +12,84 @@ use Rattle.reader.proofs.read_job.Reads as read-job-reads
 use Rattle.report.proofs.answer.Reads as answer-reads
 use Rattle.texts.proofs.write_refusal.Reads as write-refusal-reads
 
--- src/lib.rt:40:38
 slice-aggregate-read-job : tie.Need-slice-aggregate-read-job
 slice-aggregate-read-job c = search needs
 
--- src/lib.rt:40:50
 slice-aggregate-read-job-2 : tie.Need-slice-aggregate-read-job-2
 slice-aggregate-read-job-2 c = search needs
 
--- src/lib.rt:40:61
 slice-aggregate-read-job-3 : tie.Need-slice-aggregate-read-job-3
 slice-aggregate-read-job-3 c = search needs
 
--- src/lib.rt:40:74
 slice-aggregate-read-job-4 : tie.Need-slice-aggregate-read-job-4
 slice-aggregate-read-job-4 c = search needs
 
--- src/lib.rt:40:9
 read-job-requires : tie.Need-read-job-requires
 read-job-requires c κs = search needs
 
--- src/lib.rt:42:23
 enum-known-job : tie.Need-enum-known-job
 enum-known-job c = search needs
 
--- src/lib.rt:43:24
 cast-rows : tie.Need-cast-rows
 cast-rows c = search needs
 
--- src/lib.rt:43:24
 mul-rows : tie.Need-mul-rows
 mul-rows c = search needs
 
--- src/lib.rt:44:25
 cast-nodes : tie.Need-cast-nodes
 cast-nodes c = search needs
 
--- src/lib.rt:44:25
 mul-nodes : tie.Need-mul-nodes
 mul-nodes c = search needs
 
--- src/lib.rt:46:26
 cast-bytes : tie.Need-cast-bytes
 cast-bytes c = search needs
 
--- src/lib.rt:46:17
 array-share-prefix-bytes : tie.Need-array-share-prefix-bytes
 array-share-prefix-bytes c = let w = within (subst (Told (now (c .before .before .before .before .before .before .before .before .before .before .before .before .before .before .args .file))) (c .before .job .given .1) (told (now (c .before .before .before .before .before .before .before .before .before .before .before .before .before .before .args .file)) (c .before .before .before .before .before .before .before .read-job .ensures .0))) in let f = w .few-bytes in let l = c .before .before .before .before .before .before .bytes2 .given in omega arith
 
--- src/lib.rt:46:17
 slice-aggregate-answer : tie.Need-slice-aggregate-answer
 slice-aggregate-answer c = let w = within (subst (Told (now (c .before .before .before .before .before .before .before .before .before .before .before .before .before .before .before .args .file))) (c .before .before .job .given .1) (told (now (c .before .before .before .before .before .before .before .before .before .before .before .before .before .before .before .args .file)) (c .before .before .before .before .before .before .before .before .read-job .ensures .0))) in let f = w .few-bytes in let l = c .before .before .before .before .before .before .before .bytes2 .given in sym (length-take-le _ (c .before .before .before .before .before .before .before .before .read-job .last .1 .0) (omega arith))
 
--- src/lib.rt:47:25
 cast-ends : tie.Need-cast-ends
 cast-ends c = search needs
 
--- src/lib.rt:47:17
 array-share-prefix-ends : tie.Need-array-share-prefix-ends
 array-share-prefix-ends c = let w = within (subst (Told (now (c .before .before .before .before .before .before .before .before .before .before .before .before .before .before .before .args .file))) (c .before .before .job .given .1) (told (now (c .before .before .before .before .before .before .before .before .before .before .before .before .before .before .before .args .file)) (c .before .before .before .before .before .before .before .before .read-job .ensures .0))) in let f = w .few-strings in let l = c .before .before .before .before .before .before .ends2 .given in omega arith
 
--- src/lib.rt:47:17
 slice-aggregate-answer-2 : tie.Need-slice-aggregate-answer-2
 slice-aggregate-answer-2 c = let w = within (subst (Told (now (c .before .before .before .before .before .before .before .before .before .before .before .before .before .before .before .before .args .file))) (c .before .before .before .job .given .1) (told (now (c .before .before .before .before .before .before .before .before .before .before .before .before .before .before .before .before .args .file)) (c .before .before .before .before .before .before .before .before .before .read-job .ensures .0))) in let f = w .few-strings in let l = c .before .before .before .before .before .before .before .ends2 .given in sym (length-take-le _ (c .before .before .before .before .before .before .before .before .before .read-job .last .1 .1 .0) (omega arith))
 
--- src/lib.rt:48:17
 array-share-prefix-schema : tie.Need-array-share-prefix-schema
 array-share-prefix-schema c = let w = within (subst (Told (now (c .before .before .before .before .before .before .before .before .before .before .before .before .before .before .before .before .args .file))) (c .before .before .before .job .given .1) (told (now (c .before .before .before .before .before .before .before .before .before .before .before .before .before .before .before .before .args .file)) (c .before .before .before .before .before .before .before .before .before .read-job .ensures .0))) in let f = w .few-rows in let l = c .before .before .before .before .before .before .schema2 .given in omega arith
 
--- src/lib.rt:48:17
 slice-aggregate-answer-3 : tie.Need-slice-aggregate-answer-3
 slice-aggregate-answer-3 c = let w = within (subst (Told (now (c .before .before .before .before .before .before .before .before .before .before .before .before .before .before .before .before .before .args .file))) (c .before .before .before .before .job .given .1) (told (now (c .before .before .before .before .before .before .before .before .before .before .before .before .before .before .before .before .before .args .file)) (c .before .before .before .before .before .before .before .before .before .before .read-job .ensures .0))) in let f = w .few-rows in let l = c .before .before .before .before .before .before .before .schema2 .given in sym (length-take-le _ (c .before .before .before .before .before .before .before .before .before .before .read-job .last .1 .1 .1 .0) (omega arith))
 
--- src/lib.rt:49:17
 array-share-prefix-instance : tie.Need-array-share-prefix-instance
 array-share-prefix-instance c = let w = within (subst (Told (now (c .before .before .before .before .before .before .before .before .before .before .before .before .before .before .before .before .before .args .file))) (c .before .before .before .before .job .given .1) (told (now (c .before .before .before .before .before .before .before .before .before .before .before .before .before .before .before .before .before .args .file)) (c .before .before .before .before .before .before .before .before .before .before .read-job .ensures .0))) in let f = w .few-nodes in let l = c .before .before .before .before .before .before .instance2 .given in omega arith
 
--- src/lib.rt:49:17
 slice-aggregate-answer-4 : tie.Need-slice-aggregate-answer-4
 slice-aggregate-answer-4 c = let w = within (subst (Told (now (c .before .before .before .before .before .before .before .before .before .before .before .before .before .before .before .before .before .before .args .file))) (c .before .before .before .before .before .job .given .1) (told (now (c .before .before .before .before .before .before .before .before .before .before .before .before .before .before .before .before .before .before .args .file)) (c .before .before .before .before .before .before .before .before .before .before .before .read-job .ensures .0))) in let f = w .few-nodes in let l = c .before .before .before .before .before .before .before .instance2 .given in sym (length-take-le _ (c .before .before .before .before .before .before .before .before .before .before .before .read-job .last .1 .1 .1 .1 .0) (omega arith))
 
--- src/lib.rt:45:13
 answer-requires : tie.Need-answer-requires
 answer-requires c κs = search needs
 
--- src/lib.rt:53:26
 enum-known-job-2 : tie.Need-enum-known-job-2
 enum-known-job-2 c = search needs
 
--- src/lib.rt:53:42
 write-refusal-requires : tie.Need-write-refusal-requires
 write-refusal-requires c κs = search needs
 
--- src/lib.rt:33:1
 same-length : tie.Need-same-length
 same-length c = search needs
 
--- src/lib.rt:33:1
 returns : tie.Need-returns
 returns c = and-within (report-read (subst (Told (now (c .before .before .before .before .before .before .before .before .before .before .before .before .before .before .before .before .before .before .before .before .before .before .args .file))) (c .before .before .before .before .before .before .before .before .before .job .given .1) (told (now (c .before .before .before .before .before .before .before .before .before .before .before .before .before .before .before .before .before .before .before .before .before .before .args .file)) (c .before .before .before .before .before .before .before .before .before .before .before .before .before .before .before .read-job .ensures .0))) (c .before .before .before .before .before .before .before .before .before .before .before .before .before .before .before .read-job .ensures .1) (c .before .before .answer .ensures))
 
--- src/lib.rt:33:1
 same-length-2 : tie.Need-same-length-2
 same-length-2 c = search needs
 
--- src/lib.rt:33:1
 returns-2 : tie.Need-returns-2
 returns-2 c = and-within (report-wrong (subst (Told (now (c .before .before .before .before .before .before .before .before .before .before .before .before .before .before .before .before .before .before .args .file))) (c .before .before .before .before .before .job2 .given .1) (told (now (c .before .before .before .before .before .before .before .before .before .before .before .before .before .before .before .before .before .before .args .file)) (c .before .before .before .before .before .before .before .before .before .before .before .read-job .ensures .0))) (c .before .before .write-refusal .ensures))
 

@@ -9,23 +9,18 @@ use Rattle.report.proofs.write_pairs.Reads as reads
 use Rattle.report.proofs.write_pairs.Lts as lts
 use Rattle.texts.proofs.write_matches.Reads as write-matches-reads
 
--- src/lib.rt:15:17
 mul-words : tie.Need-mul-words
 mul-words c = search needs
 
--- src/lib.rt:16:34
 slice-aggregate-write-matches : tie.Need-slice-aggregate-write-matches
 slice-aggregate-write-matches c = sym (length-take-le (c .before .before .before .args .pairs * 2) (c .before .before .before .args .list .now) (omega arith))
 
--- src/lib.rt:16:5
 write-matches-requires : tie.Need-write-matches-requires
 write-matches-requires c κs = search needs
 
--- src/lib.rt:11:1
 same-length : tie.Need-same-length
 same-length c = search needs
 
--- src/lib.rt:11:1
 returns : tie.Need-returns
 returns c = let e = length-take-le (c .before .before .before .before .before .before .before .args .pairs * 2) (c .before .before .before .before .before .before .before .args .list .now) (omega arith) in c .before .before .write-matches .ensures (omega arith) (omega arith)
 

@@ -7,23 +7,18 @@ use Rattle.texts.proofs.kept.Reads as reads
 use Rattle.texts.proofs.kept.Lts as lts
 use Rattle.tables.proofs.zero_u8.Reads as zero-u8-reads
 
--- src/lib.rt:310:9
 zero-u8-requires : tie.Need-zero-u8-requires
 zero-u8-requires c κs = search needs
 
--- src/lib.rt:311:9
 same-length : tie.Need-same-length
 same-length c = search needs
 
--- src/lib.rt:311:9
 returns : tie.Need-returns
 returns c = record { fits = λ h. absurd (omega arith); short = λ h. (c .before .before .zero-u8 .ensures, refl) }
 
--- src/lib.rt:313:5
 cast-result : tie.Need-cast-result
 cast-result c = search needs
 
--- src/lib.rt:305:1
 returns-2 : tie.Need-returns-2
 returns-2 c = record { fits = λ h. (refl, refl); short = λ h. absurd (omega arith) }
 

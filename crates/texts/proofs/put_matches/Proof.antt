@@ -11,35 +11,27 @@ use Rattle.texts.proofs.put_count.Reads as put-count-reads
 use Rattle.texts.proofs.put_rows.Reads as put-rows-reads
 use Rattle.texts.proofs.put_valid.Reads as put-valid-reads
 
--- src/lib.rt:287:9
 put-valid-requires : tie.Need-put-valid-requires
 put-valid-requires c κs = search needs
 
--- src/lib.rt:288:31
 slice-aggregate-put-count : tie.Need-slice-aggregate-put-count
 slice-aggregate-put-count c = search needs
 
--- src/lib.rt:288:42
 cast-put-count : tie.Need-cast-put-count
 cast-put-count c = search needs
 
--- src/lib.rt:288:9
 put-count-requires : tie.Need-put-count-requires
 put-count-requires c κs = search needs
 
--- src/lib.rt:289:22
 slice-aggregate-put-rows : tie.Need-slice-aggregate-put-rows
 slice-aggregate-put-rows c = search needs
 
--- src/lib.rt:289:5
 put-rows-requires : tie.Need-put-rows-requires
 put-rows-requires c κs = search needs
 
--- src/lib.rt:281:1
 same-length : tie.Need-same-length
 same-length c = search needs
 
--- src/lib.rt:281:1
 returns : tie.Need-returns
 returns c = let m = c .before .before .put-rows .ensures .1 in let n = c .before .before .before .before .before .before .before .put-count .ensures .1 in let k = c .before .before .before .before .before .before .before .before .before .before .before .before .put-valid .ensures .1 in (wrote-matches (c .before .before .before .before .before .before .before .before .before .before .before .before .before .before .before .before .args .valid) (now (c .before .before .before .before .before .before .before .before .before .before .before .before .before .before .before .before .args .list)) (c .before .before .before .before .before .before .before .before .before .before .before .before .put-valid .ensures .0) (c .before .before .before .before .before .before .before .put-count .ensures .0) (c .before .before .put-rows .ensures .0), omega arith)
 

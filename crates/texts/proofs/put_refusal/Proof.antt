@@ -11,35 +11,27 @@ use Rattle.texts.proofs.put.Reads as put-reads
 use Rattle.texts.proofs.put_number.Reads as put-number-reads
 use Rattle.texts.proofs.put_text.Reads as put-text-reads
 
--- src/lib.rt:297:30
 slice-aggregate-put-text : tie.Need-slice-aggregate-put-text
 slice-aggregate-put-text c = search needs
 
--- src/lib.rt:297:9
 put-text-requires : tie.Need-put-text-requires
 put-text-requires c κs = search needs
 
--- src/lib.rt:298:9
 put-number-requires : tie.Need-put-number-requires
 put-number-requires c κs = search needs
 
--- src/lib.rt:299:9
 put-requires : tie.Need-put-requires
 put-requires c κs = let d = decimal-length (c .before .before .before .before .before .before .before .before .before .before .before .args .code) in let m0 = c .before .before .before .put-number .ensures .moves in let m1 = c .before .before .before .before .before .before .before .put-text .ensures .moves in omega arith
 
--- src/lib.rt:300:9
 put-number-requires-2 : tie.Need-put-number-requires-2
 put-number-requires-2 c κs = let d = decimal-length (c .before .before .before .before .before .before .before .before .before .before .before .before .before .before .before .args .code) in let m0 = c .before .before .before .put .ensures .moves in let m1 = c .before .before .before .before .before .before .before .put-number .ensures .moves in let m2 = c .before .before .before .before .before .before .before .before .before .before .before .put-text .ensures .moves in omega arith
 
--- src/lib.rt:301:5
 put-requires-2 : tie.Need-put-requires-2
 put-requires-2 c κs = let d = decimal-length (c .before .before .before .before .before .before .before .before .before .before .before .before .before .before .before .before .before .before .before .args .code) in let e = decimal-length (c .before .before .before .before .before .before .before .before .before .before .before .before .before .before .before .before .before .before .before .args .place) in let m0 = c .before .before .before .put-number2 .ensures .moves in let m1 = c .before .before .before .before .before .before .before .put .ensures .moves in let m2 = c .before .before .before .before .before .before .before .before .before .before .before .put-number .ensures .moves in let m3 = c .before .before .before .before .before .before .before .before .before .before .before .before .before .before .before .put-text .ensures .moves in omega arith
 
--- src/lib.rt:293:1
 same-length : tie.Need-same-length
 same-length c = search needs
 
--- src/lib.rt:293:1
 returns : tie.Need-returns
 returns c = let d = decimal-length (c .before .before .before .before .before .before .before .before .before .before .before .before .before .before .before .before .before .before .before .before .before .before .args .code) in let e = decimal-length (c .before .before .before .before .before .before .before .before .before .before .before .before .before .before .before .before .before .before .before .before .before .before .args .place) in let m0 = c .before .before .put2 .ensures .moves in let m1 = c .before .before .before .before .before .before .put-number2 .ensures .moves in let m2 = c .before .before .before .before .before .before .before .before .before .before .put .ensures .moves in let m3 = c .before .before .before .before .before .before .before .before .before .before .before .before .before .before .put-number .ensures .moves in let m4 = c .before .before .before .before .before .before .before .before .before .before .before .before .before .before .before .before .before .before .put-text .ensures .moves in (wrote-refusal (c .before .before .before .before .before .before .before .before .before .before .before .before .before .before .before .before .before .before .before .before .before .before .args .code) (c .before .before .before .before .before .before .before .before .before .before .before .before .before .before .before .before .before .before .before .before .before .before .args .place) (c .before .before .before .before .before .before .before .before .before .before .before .before .before .before .before .before .before .before .put-text .ensures) (c .before .before .before .before .before .before .before .before .before .before .before .before .before .before .put-number .ensures) (c .before .before .before .before .before .before .before .before .before .before .put .ensures) (c .before .before .before .before .before .before .put-number2 .ensures) (c .before .before .put2 .ensures), omega arith)
 

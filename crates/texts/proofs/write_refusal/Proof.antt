@@ -8,23 +8,18 @@ use Rattle.tables.proofs.zero_u8.Reads as zero-u8-reads
 use Rattle.texts.proofs.kept.Reads as kept-reads
 use Rattle.texts.proofs.put_refusal.Reads as put-refusal-reads
 
--- src/lib.rt:335:5
 zero-u8-requires : tie.Need-zero-u8-requires
 zero-u8-requires c κs = search needs
 
--- src/lib.rt:336:9
 put-refusal-requires : tie.Need-put-refusal-requires
 put-refusal-requires c κs = search needs
 
--- src/lib.rt:337:5
 kept-requires : tie.Need-kept-requires
 kept-requires c κs = search needs
 
--- src/lib.rt:332:1
 same-length : tie.Need-same-length
 same-length c = search needs
 
--- src/lib.rt:332:1
 returns : tie.Need-returns
 returns c = text-in (c .before .before .before .before .before .before .before .before .before .before .zero-u8 .ensures) (c .before .before .before .before .before .before .put-refusal .ensures .0) (c .before .before .kept .ensures)
 

@@ -55,7 +55,6 @@ root-matches-below t =
     (falls 2 root-matches-kinds.ps _<_ μ-root-matches t)
     root-matches.Pre
 
--- src/lib.rt:11:9
 matches-either-field-a-requires : (t : ℕ) → matches-either-lts.Need-field-a-requires (
   field-a-reads.Asked,
   field-a-reads.Learnt,
@@ -66,7 +65,6 @@ matches-either-field-a-requires : (t : ℕ) → matches-either-lts.Need-field-a-
 ) (matches-either-at t) matches-either.Post
 matches-either-field-a-requires t c κs = search needs
 
--- src/lib.rt:12:9
 matches-either-field-b-requires : (t : ℕ) → matches-either-lts.Need-field-b-requires (
   field-a-reads.Asked,
   field-a-reads.Learnt,
@@ -77,7 +75,6 @@ matches-either-field-b-requires : (t : ℕ) → matches-either-lts.Need-field-b-
 ) (matches-either-at t) matches-either.Post
 matches-either-field-b-requires t c κs = search needs
 
--- src/lib.rt:15:16
 matches-either-root-matches-requires : (t : ℕ) → matches-either-lts.Need-root-matches-requires (
   field-a-reads.Asked,
   field-a-reads.Learnt,
@@ -88,7 +85,6 @@ matches-either-root-matches-requires : (t : ℕ) → matches-either-lts.Need-roo
 ) (matches-either-at t) matches-either.Post
 matches-either-root-matches-requires t c κs = let q = c .before .before .before .before .before .before .pre .0 in (omega arith, tt)
 
--- src/lib.rt:16:17
 matches-either-returns : (t : ℕ) → matches-either-lts.Need-returns (
   field-a-reads.Asked,
   field-a-reads.Learnt,
@@ -99,7 +95,6 @@ matches-either-returns : (t : ℕ) → matches-either-lts.Need-returns (
 ) (matches-either-at t) matches-either.Post
 matches-either-returns t c = tells-first (now (c .before .before .before .before .before .before .before .before .args .schema)) (now (c .before .before .before .before .before .before .before .before .args .pairs)) (c .before .before .before .before .before .before .before .before .args .p) (c .before .before .before .before .before .before .before .before .pre .1) (c .before .before .before .before .before .field-a .ensures) (c .before .before .before .before .field-b .ensures) _ (c .if3 .taken) (c .before .root-matches .ensures)
 
--- src/lib.rt:18:13
 matches-either-root-matches-requires-2 : (t : ℕ) → matches-either-lts.Need-root-matches-requires-2 (
   field-a-reads.Asked,
   field-a-reads.Learnt,
@@ -110,7 +105,6 @@ matches-either-root-matches-requires-2 : (t : ℕ) → matches-either-lts.Need-r
 ) (matches-either-at t) matches-either.Post
 matches-either-root-matches-requires-2 t c κs = let q = c .before .before .before .before .before .before .before .before .pre .0 in (omega arith, tt)
 
--- src/lib.rt:18:13
 matches-either-returns-2 : (t : ℕ) → matches-either-lts.Need-returns-2 (
   field-a-reads.Asked,
   field-a-reads.Learnt,
@@ -121,7 +115,6 @@ matches-either-returns-2 : (t : ℕ) → matches-either-lts.Need-returns-2 (
 ) (matches-either-at t) matches-either.Post
 matches-either-returns-2 t c = tells-second (now (c .before .before .before .before .before .before .before .before .before .args .schema)) (now (c .before .before .before .before .before .before .before .before .before .args .pairs)) (c .before .before .before .before .before .before .before .before .before .args .p) (c .before .before .before .before .before .before .before .before .before .pre .1) (c .before .before .before .before .before .before .field-a .ensures) (c .before .before .before .before .before .field-b .ensures) _ (c .root-matches2 .result) (c .before .if3 .left) (c .before .before .root-matches .ensures) (c .root-matches2 .ensures)
 
--- src/lib.rt:7:1
 matches-either-returns-3 : (t : ℕ) → matches-either-lts.Need-returns-3 (
   field-a-reads.Asked,
   field-a-reads.Learnt,
@@ -132,7 +125,6 @@ matches-either-returns-3 : (t : ℕ) → matches-either-lts.Need-returns-3 (
 ) (matches-either-at t) matches-either.Post
 matches-either-returns-3 t c = tells-none (now (c .before .before .before .before .before .before .args .schema)) (now (c .before .before .before .before .before .before .args .pairs)) (c .before .before .before .before .before .before .args .p) (c .before .before .before .before .before .before .pre .1) (c .before .before .before .field-a .ensures) (c .before .before .field-b .ensures) (λ h l. omega arith)
 
--- src/lib.rt:7:1
 matches-either-returns-4 : (t : ℕ) → matches-either-lts.Need-returns-4 (
   field-a-reads.Asked,
   field-a-reads.Learnt,
@@ -143,7 +135,6 @@ matches-either-returns-4 : (t : ℕ) → matches-either-lts.Need-returns-4 (
 ) (matches-either-at t) matches-either.Post
 matches-either-returns-4 t c = tells-none (now (c .before .before .before .before .before .args .schema)) (now (c .before .before .before .before .before .args .pairs)) (c .before .before .before .before .before .args .p) (c .before .before .before .before .before .pre .1) (c .before .before .field-a .ensures) (c .before .field-b .ensures) (λ h l. omega arith)
 
--- src/lib.rt:28:9
 root-matches-kind-requires : (t : ℕ) → root-matches-lts.Need-kind-requires (
   kind-reads.Asked,
   kind-reads.Learnt,
@@ -156,7 +147,6 @@ root-matches-kind-requires : (t : ℕ) → root-matches-lts.Need-kind-requires (
 ) (root-matches-at t) root-matches.Post
 root-matches-kind-requires t c κs = search needs
 
--- src/lib.rt:30:34
 root-matches-field-a-requires : (t : ℕ) → root-matches-lts.Need-field-a-requires (
   kind-reads.Asked,
   kind-reads.Learnt,
@@ -169,7 +159,6 @@ root-matches-field-a-requires : (t : ℕ) → root-matches-lts.Need-field-a-requ
 ) (root-matches-at t) root-matches.Post
 root-matches-field-a-requires t c κs = search needs
 
--- src/lib.rt:30:34
 root-matches-cast-byte : (t : ℕ) → root-matches-lts.Need-cast-byte (
   kind-reads.Asked,
   kind-reads.Learnt,
@@ -182,7 +171,6 @@ root-matches-cast-byte : (t : ℕ) → root-matches-lts.Need-cast-byte (
 ) (root-matches-at t) root-matches.Post
 root-matches-cast-byte t c = search needs
 
--- src/lib.rt:30:14
 root-matches-byte-requires : (t : ℕ) → root-matches-lts.Need-byte-requires (
   kind-reads.Asked,
   kind-reads.Learnt,
@@ -195,7 +183,6 @@ root-matches-byte-requires : (t : ℕ) → root-matches-lts.Need-byte-requires (
 ) (root-matches-at t) root-matches.Post
 root-matches-byte-requires t c κs = search needs
 
--- src/lib.rt:31:15
 root-matches-matches-either-requires : (t : ℕ) → root-matches-lts.Need-matches-either-requires (
   kind-reads.Asked,
   kind-reads.Learnt,
@@ -208,7 +195,6 @@ root-matches-matches-either-requires : (t : ℕ) → root-matches-lts.Need-match
 ) (root-matches-at t) root-matches.Post
 root-matches-matches-either-requires t c κs = let q = c .before .before .before .before .pre .0 in (omega arith, sym (c .before .kind .ensures) ∙ c .match .keys2)
 
--- src/lib.rt:25:1
 root-matches-returns : (t : ℕ) → root-matches-lts.Need-returns (
   kind-reads.Asked,
   kind-reads.Learnt,
@@ -221,7 +207,6 @@ root-matches-returns : (t : ℕ) → root-matches-lts.Need-returns (
 ) (root-matches-at t) root-matches.Post
 root-matches-returns t c = tells-ref (now (c .before .before .before .before .before .before .args .schema)) (now (c .before .before .before .before .before .before .args .pairs)) (c .before .before .before .before .before .before .args .p) _ (sym (c .before .before .before .kind .ensures) ∙ c .before .before .match .keys1) (c .byte .ensures ∙ ap (λ (i : ℕ). getD (now (c .before .before .before .before .before .before .args .pairs)) i 0) (c .before .field-a .ensures)) refl
 
--- src/lib.rt:25:1
 root-matches-returns-2 : (t : ℕ) → root-matches-lts.Need-returns-2 (
   kind-reads.Asked,
   kind-reads.Learnt,
@@ -234,7 +219,6 @@ root-matches-returns-2 : (t : ℕ) → root-matches-lts.Need-returns-2 (
 ) (root-matches-at t) root-matches.Post
 root-matches-returns-2 t c = c .matches-either .ensures
 
--- src/lib.rt:25:1
 root-matches-returns-3 : (t : ℕ) → root-matches-lts.Need-returns-3 (
   kind-reads.Asked,
   kind-reads.Learnt,

@@ -10,31 +10,24 @@ use Rattle.validity.proofs.valid.Lts as lts
 use Rattle.schema.proofs.field_a.Reads as field-a-reads
 use Rattle.validity.proofs.root_matches.Reads as root-matches-reads
 
--- src/lib.rt:42:9
 returns : tie.Need-returns
 returns c bytes ends t pass right = absurd (let x = some-row (pass .schema .rows) in omega arith)
 
--- src/lib.rt:45:9
 returns-2 : tie.Need-returns-2
 returns-2 c bytes ends t pass right = absurd (let x = few-rows (right-size (pass .schema .rows)) in omega arith)
 
--- src/lib.rt:47:57
 cast-field-a : tie.Need-cast-field-a
 cast-field-a c = search needs
 
--- src/lib.rt:47:57
 sub-field-a : tie.Need-sub-field-a
 sub-field-a c = search needs
 
--- src/lib.rt:47:33
 field-a-requires : tie.Need-field-a-requires
 field-a-requires c κs = search needs
 
--- src/lib.rt:47:5
 root-matches-requires : tie.Need-root-matches-requires
 root-matches-requires c κs = search needs
 
--- src/lib.rt:37:1
 returns-3 : tie.Need-returns-3
 returns-3 c = tells-valid (now (c .before .before .before .before .before .before .args .schema)) (now (c .before .before .before .before .before .before .args .pairs)) _ (c .root-matches .result) (c .before .field-a .ensures) (c .root-matches .ensures)
 
