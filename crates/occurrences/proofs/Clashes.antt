@@ -1,5 +1,5 @@
 -- Codes 7 and 8 at one row, from what is found in its two sides.
-use mathlib.Core.Path.{_≡_, refl, sym, _∙_, ap}
+use mathlib.Core.Path.{_≡_, refl, sym, _∙_, ap, subst}
 use mathlib.Core.Bool.{Bool, true, false, true≢false, false≢true}
 use mathlib.Core.List.{List}
 use Prim.Native.Nat.{ℕ, _<_}
@@ -8,6 +8,7 @@ use Rattle.tables.specs.Answers.{Decides}
 use Rattle.tables.proofs.Answers.{decides-same}
 use Rattle.schema.specs.Kinds as kind
 use Rattle.schema.specs.Rows.{rowsOf, kindOf, childA, childB}
+use Rattle.schema.specs.Relations.{Occurs}
 use Rattle.schema.specs.RowRule.{SizeRight}
 use Rattle.schema.proofs.RowLaws.{in-table}
 use Rattle.places.specs.Marks.{Marked, Marks, Under}
@@ -61,19 +62,20 @@ module _ (s : List ℕ) (r : ℕ) where
   no-interleave-fault n (same-element x y u l k o kx o′ ky c) = n k
   no-interleave-fault n (text-twice x y k o kx o′ ky) = n k
 
-  module _ (e : kindOf s r ≡ kind.interleave) where
-    pub element-fault : Somewhere s (Suits s (RefMeeting (childB s r))) (childA s r) → InterleaveFault s r
-    element-fault f = let g = f .2 .1 in same-element (f .0) (g .0) (g .2 .1 .0) (g .2 .1 .1) e (f .1) (f .2 .0) (g .1) (g .2 .0) (g .2 .1 .2)
+  -- an interleave, by what is found in its sides a and b
+  module _ (e : kindOf s r ≡ kind.interleave) {a b : ℕ} (is-a : a ≡ childA s r) (is-b : b ≡ childB s r) where
+    pub element-fault : Somewhere s (Suits s (RefMeeting b)) a → InterleaveFault s r
+    element-fault f = let g = f .2 .1 in same-element (f .0) (g .0) (g .2 .1 .0) (g .2 .1 .1) e (subst (Occurs s (f .0)) is-a (f .1)) (f .2 .0) (subst (Occurs s (g .0)) is-b (g .1)) (g .2 .0) (g .2 .1 .2)
 
-    module _ (no-element : ¬ Somewhere s (Suits s (RefMeeting (childB s r))) (childA s r)) where
-      text-sides : InterleaveFault s r → Somewhere s (Suits s Text) (childA s r) × Somewhere s (Suits s Text) (childB s r)
-      text-sides (same-element x y u l k o kx o′ ky c) = absurd (no-element (x, o, (kx, (y, o′, (ky, (u, l, c))))))
-      text-sides (text-twice x y k o kx o′ ky) = ((x, o, kx), (y, o′, ky))
+    module _ (no-element : ¬ Somewhere s (Suits s (RefMeeting b)) a) where
+      text-sides : InterleaveFault s r → Somewhere s (Suits s Text) a × Somewhere s (Suits s Text) b
+      text-sides (same-element x y u l k o kx o′ ky c) = absurd (no-element (x, subst (Occurs s x) (sym is-a) o, (kx, (y, subst (Occurs s y) (sym is-b) o′, (ky, (u, l, c))))))
+      text-sides (text-twice x y k o kx o′ ky) = ((x, subst (Occurs s x) (sym is-a) o, kx), (y, subst (Occurs s y) (sym is-b) o′, ky))
 
-      pub text-decides : Somewhere s (Suits s Text) (childA s r) → (x : Bool) → Decides (Somewhere s (Suits s Text) (childB s r)) x → Decides (InterleaveFault s r) x
-      text-decides f x = decides-same x (λ g. text-twice (f .0) (g .0) e (f .1) (f .2) (g .1) (g .2)) (λ h. text-sides h .1)
+      pub text-decides : Somewhere s (Suits s Text) a → (x : Bool) → Decides (Somewhere s (Suits s Text) b) x → Decides (InterleaveFault s r) x
+      text-decides f x = decides-same x (λ g. text-twice (f .0) (g .0) e (subst (Occurs s (f .0)) is-a (f .1)) (f .2) (subst (Occurs s (g .0)) is-b (g .1)) (g .2)) (λ h. text-sides h .1)
 
-      pub no-text-fault : ¬ Somewhere s (Suits s Text) (childA s r) → ¬ InterleaveFault s r
+      pub no-text-fault : ¬ Somewhere s (Suits s Text) a → ¬ InterleaveFault s r
       no-text-fault n h = n (text-sides h .0)
 
 -- faults are at rows of the table

@@ -1,11 +1,15 @@
--- What is looked for among the patterns that occur in a pattern; cited by private functions only.
-use Prim.Native.Nat.{ℕ}
+-- What is looked for among the patterns that occur in a pattern, and what is remembered of comparisons; cited by private functions only.
+use Prim.Native.Nat.{ℕ, _+_, _*_, _/_, _%_, _<_}
 use mathlib.Core.Path.{_≡_}
+use mathlib.Core.Bool.{true}
 use mathlib.Core.List.{List}
+use lib.ListN.{getD}
 use Rattle.schema.specs.Kinds as kind
 use Rattle.schema.specs.Rows.{kindOf, childA}
 use Rattle.schema.specs.Relations.{Occurs}
+use Rattle.schema.specs.RowRule.{maxRows}
 use Rattle.classes.specs.Least.{Common}
+use Rattle.sets.specs.Bits.{bit}
 use Rattle.occurrences.specs.Interleaves.{classReferred}
 use Rattle.occurrences.specs.declared.Wanted.{Wanted}
 use Rattle.occurrences.specs.declared.Wanted.the-variants.{Text, AttributeSharing, RefSharing, AttributeMeeting, RefMeeting}
@@ -17,6 +21,10 @@ Somewhere s P p = (x : ℕ) × Occurs s x p × P x
 -- the classes at rows c and d have a name in common
 abbrev pub Shared : List ℕ → ℕ → ℕ → Type 0
 Shared s c d = (u : ℕ) × (l : ℕ) × Common s c d u l
+
+-- the classes that m has for the class at row c share no name with it: eight words of 64 rows each, from word c * 8 on
+pub record Compared (s m : List ℕ) : Type 0 where
+  pub apart : (c d : ℕ) → d < maxRows → bit (getD m (c * 8 + d / 64) 0) (d % 64) ≡ true → ¬ Shared s c d
 
 -- an attribute, or a ref to an element, that shares a name with the class at row c
 abbrev pub SharingAttribute : List ℕ → ℕ → ℕ → Type 0

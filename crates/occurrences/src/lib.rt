@@ -11,7 +11,7 @@ ghost use Rattle.places.specs.Marks.{Marks, Under};
 ghost use Rattle.places.specs.Sources.{HasKind};
 ghost use Rattle.occurrences.specs.Attributes.{Infinite, AttributeFault};
 ghost use Rattle.occurrences.specs.Interleaves.{classReferred, InterleaveFault};
-ghost use Rattle.occurrences.specs.Occurrences.{Somewhere, Shared, Suits};
+ghost use Rattle.occurrences.specs.Occurrences.{Somewhere, Shared, Suits, Compared};
 
 // Whether the class at a row has anyName or nsName in it.
 fn infinite(schema: &[u32], class: u32) -> bool
@@ -62,10 +62,34 @@ fn share_name(schema: &[u32], first: u32, second: u32) -> bool
     }
 }
 
+// Whether two classes have a name in common. Two that share none are remembered, where the table has a place for them, and not compared again; two that share one end the check.
+fn share_name_once(schema: &[u32], first: u32, second: u32, compared: &mut [u64]) -> bool
+    requires { ⌜ SizeRight (now schema) × Compared (now schema) (now compared) ⌝ }
+    ensures { λ r. ⌜ Decides (Shared (now (schema .entry)) first second) r × Compared (now (schema .entry)) (now (compared .exit)) ⌝ }
+{
+    if second > 511 {
+        return share_name(schema, first, second);
+    }
+    let place = first as usize * 8 + second as usize / 64;
+    if compared.len() <= place {
+        return share_name(schema, first, second);
+    }
+    let member = second % 64;
+    let set = compared[place];
+    if sets::has(set, member) {
+        return false;
+    }
+    if share_name(schema, first, second) {
+        return true;
+    }
+    compared[place] = set | 1u64 << member;
+    false
+}
+
 // Whether row x is what is wanted.
-fn suits(schema: &[u32], wanted: Wanted, x: u32) -> bool
-    requires { ⌜ SizeRight (now schema) ⌝ }
-    ensures { λ r. ⌜ Decides (Suits (now (schema .entry)) wanted x) r ⌝ }
+fn suits(schema: &[u32], wanted: Wanted, x: u32, compared: &mut [u64]) -> bool
+    requires { ⌜ SizeRight (now schema) × Compared (now schema) (now compared) ⌝ }
+    ensures { λ r. ⌜ Decides (Suits (now (schema .entry)) wanted x) r × Compared (now (schema .entry)) (now (compared .exit)) ⌝ }
 {
     let kind = schema::kind(schema, x);
     match wanted {
@@ -79,25 +103,23 @@ fn suits(schema: &[u32], wanted: Wanted, x: u32) -> bool
         }
         Wanted::RefSharing(class) => {
             if kind == 8 {
-                share_name(schema, class, class_referred(schema, x))
+                share_name_once(schema, class, class_referred(schema, x), compared)
             } else {
                 false
             }
         }
         Wanted::AttributeMeeting(q) => {
             if kind == 7 {
-                occurs(
-                    schema,
-                    Wanted::AttributeSharing(schema::child_a(schema, x)),
-                    q,
-                )
+                let class = schema::child_a(schema, x);
+                occurs(schema, Wanted::AttributeSharing(class), q, compared)
             } else {
                 false
             }
         }
         Wanted::RefMeeting(q) => {
             if kind == 8 {
-                occurs(schema, Wanted::RefSharing(class_referred(schema, x)), q)
+                let class = class_referred(schema, x);
+                occurs(schema, Wanted::RefSharing(class), q, compared)
             } else {
                 false
             }
@@ -113,11 +135,11 @@ fn class_referred(schema: &[u32], x: u32) -> u32
 }
 
 // Whether what is wanted occurs in the pattern at a row.
-fn occurs(schema: &[u32], wanted: Wanted, p: u32) -> bool
-    requires { ⌜ SizeRight (now schema) ⌝ }
-    ensures { λ r. ⌜ Decides (Somewhere (now (schema .entry)) (Suits (now (schema .entry)) wanted) p) r ⌝ }
+fn occurs(schema: &[u32], wanted: Wanted, p: u32, compared: &mut [u64]) -> bool
+    requires { ⌜ SizeRight (now schema) × Compared (now schema) (now compared) ⌝ }
+    ensures { λ r. ⌜ Decides (Somewhere (now (schema .entry)) (Suits (now (schema .entry)) wanted) p) r × Compared (now (schema .entry)) (now (compared .exit)) ⌝ }
 {
-    if suits(schema, wanted, p) {
+    if suits(schema, wanted, p, compared) {
         return true;
     }
     let kind = schema::kind(schema, p);
@@ -127,35 +149,43 @@ fn occurs(schema: &[u32], wanted: Wanted, p: u32) -> bool
     if 12 < kind {
         return false;
     }
-    if occurs_child(schema, wanted, p, schema::child_a(schema, p)) {
+    if occurs_child(schema, wanted, p, schema::child_a(schema, p), compared) {
         return true;
     }
-    occurs_child(schema, wanted, p, schema::child_b(schema, p))
+    occurs_child(schema, wanted, p, schema::child_b(schema, p), compared)
 }
 
 // Whether what is wanted occurs in a child of a row, a smaller one.
-fn occurs_child(schema: &[u32], wanted: Wanted, parent: u32, child: u32) -> bool
-    requires { ⌜ SizeRight (now schema) ⌝ }
-    ensures { λ r. ⌜ Decides ((child < parent) × Somewhere (now (schema .entry)) (Suits (now (schema .entry)) wanted) child) r ⌝ }
+fn occurs_child(
+    schema: &[u32],
+    wanted: Wanted,
+    parent: u32,
+    child: u32,
+    compared: &mut [u64],
+) -> bool
+    requires { ⌜ SizeRight (now schema) × Compared (now schema) (now compared) ⌝ }
+    ensures { λ r. ⌜ Decides ((child < parent) × Somewhere (now (schema .entry)) (Suits (now (schema .entry)) wanted) child) r × Compared (now (schema .entry)) (now (compared .exit)) ⌝ }
 {
     if child < parent {
-        occurs(schema, wanted, child)
+        occurs(schema, wanted, child, compared)
     } else {
         false
     }
 }
 
-// Whether row r breaks a restriction on attributes, with a table of the rows below a oneOrMore.
+// Whether row r breaks a restriction on attributes, with a table of the rows below a oneOrMore. Two attributes meet at one row only, so their comparison is not remembered.
 fn attribute_fault(schema: &[u32], repeated: &[u32], r: u32) -> bool
     requires { ⌜ SizeRight (now schema) × Marks (Under (now schema) (HasKind (now schema) oneOrMore)) (now repeated) × (r < rowsOf (now schema)) ⌝ }
     ensures { λ fault. ⌜ Decides (AttributeFault (now (schema .entry)) r) fault ⌝ }
 {
     let kind = schema::kind(schema, r);
     if places::is_pair(kind) {
+        let mut unused = [0u64; 1];
         return occurs(
             schema,
             Wanted::AttributeMeeting(schema::child_b(schema, r)),
             schema::child_a(schema, r),
+            &mut unused,
         );
     }
     if kind != 7 {
@@ -168,9 +198,9 @@ fn attribute_fault(schema: &[u32], repeated: &[u32], r: u32) -> bool
 }
 
 // Whether row r breaks a restriction on interleave.
-fn interleave_fault(schema: &[u32], r: u32) -> bool
-    requires { ⌜ SizeRight (now schema) ⌝ }
-    ensures { λ fault. ⌜ Decides (InterleaveFault (now (schema .entry)) r) fault ⌝ }
+fn interleave_fault(schema: &[u32], r: u32, compared: &mut [u64]) -> bool
+    requires { ⌜ SizeRight (now schema) × Compared (now schema) (now compared) ⌝ }
+    ensures { λ fault. ⌜ Decides (InterleaveFault (now (schema .entry)) r) fault × Compared (now (schema .entry)) (now (compared .exit)) ⌝ }
 {
     let kind = schema::kind(schema, r);
     if kind != 12 {
@@ -178,11 +208,11 @@ fn interleave_fault(schema: &[u32], r: u32) -> bool
     }
     let a = schema::child_a(schema, r);
     let b = schema::child_b(schema, r);
-    if occurs(schema, Wanted::RefMeeting(b), a) {
+    if occurs(schema, Wanted::RefMeeting(b), a, compared) {
         return true;
     }
-    if occurs(schema, Wanted::Text, a) {
-        occurs(schema, Wanted::Text, b)
+    if occurs(schema, Wanted::Text, a, compared) {
+        occurs(schema, Wanted::Text, b, compared)
     } else {
         false
     }
@@ -218,14 +248,14 @@ pub fn check_attributes(schema: &[u32]) -> Checked
 }
 
 // The first interleave that breaks a restriction on interleave.
-fn first_interleave(schema: &[u32]) -> Checked
-    requires { ⌜ SizeRight (now schema) ⌝ }
+fn first_interleave(schema: &[u32], compared: &mut [u64]) -> Checked
+    requires { ⌜ SizeRight (now schema) × Compared (now schema) (now compared) ⌝ }
     ensures { λ r. ⌜ Finds (InterleaveFault (now (schema .entry))) r ⌝ }
 {
     let rows = schema.len() / 3;
     let mut r = 0;
     while r < rows {
-        if interleave_fault(schema, r as u32) {
+        if interleave_fault(schema, r as u32, compared) {
             return Checked::Fault(r as u32);
         }
         r += 1;
@@ -233,7 +263,7 @@ fn first_interleave(schema: &[u32]) -> Checked
     Checked::Fine
 }
 
-// Code 8: the first interleave that breaks a restriction on interleave.
+// Code 8: the first interleave that breaks a restriction on interleave. Two classes are compared once in each order, however often refs to their elements meet.
 pub fn check_interleaves(schema: &[u32]) -> Checked
     ensures { λ r. ⌜ (SizeRight (now (schema .entry)) → Finds (InterleaveFault (now (schema .entry))) r) ⌝ }
 {
@@ -241,5 +271,6 @@ pub fn check_interleaves(schema: &[u32]) -> Checked
     let Checked::Fine = size else {
         return size;
     };
-    first_interleave(schema)
+    let mut compared = [0u64; 4096];
+    first_interleave(schema, &mut compared)
 }

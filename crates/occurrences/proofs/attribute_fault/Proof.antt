@@ -2,6 +2,7 @@
 use mathlib.Core.Path.{sym, _∙_}
 use borrow.Author.Needs.{needs}
 use Rattle.occurrences.proofs.Clashes.{pair-decides, no-attribute-fault, repeated-right, infinite-decides}
+use Rattle.occurrences.proofs.Comparing.{compared-none}
 use Rattle.occurrences.proofs.attribute_fault.Statement.{statement}
 use Rattle.occurrences.proofs.attribute_fault.Tie as tie
 
@@ -17,11 +18,14 @@ child-b-requires c κs = search needs
 child-a-requires : tie.Need-child-a-requires
 child-a-requires c κs = search needs
 
+slice-aggregate-occurs : tie.Need-slice-aggregate-occurs
+slice-aggregate-occurs c = search needs
+
 occurs-requires : tie.Need-occurs-requires
-occurs-requires c κs = search needs
+occurs-requires c κs = (c .before .before .before .before .before .before .before .before .pre .0, compared-none _ 1)
 
 returns : tie.Need-returns
-returns c = pair-decides (c .before .before .before .before .before .before .before .before .args .schema .now) (c .before .before .before .before .before .before .before .before .args .r) (rw (← c .before .before .before .before .before .kind .ensures) (sym (c .before .before .before .before .is-pair .ensures) ∙ c .before .before .before .if1 .taken)) (c .occurs .result) (rw (c .before .before .child-b .ensures, c .before .child-a .ensures) at (c .occurs .ensures))
+returns c = pair-decides (c .before .before .before .before .before .before .before .before .before .before .args .schema .now) (c .before .before .before .before .before .before .before .before .before .before .args .r) (rw (← c .before .before .before .before .before .before .before .kind .ensures) (sym (c .before .before .before .before .before .before .is-pair .ensures) ∙ c .before .before .before .before .before .if1 .taken)) (c .before .occurs .result) (rw (c .before .before .before .before .child-b .ensures, c .before .before .before .child-a .ensures) at (c .before .occurs .ensures .0))
 
 returns-2 : tie.Need-returns-2
 returns-2 c = no-attribute-fault (c .before .before .before .before .before .before .args .schema .now) (c .before .before .before .before .before .before .args .r) (rw (← c .before .before .before .kind .ensures) (sym (c .before .before .is-pair .ensures) ∙ c .before .if1 .left)) (λ e. c .if2 .taken (c .before .before .before .kind .ensures ∙ e))
@@ -49,6 +53,7 @@ attribute-fault-spec =
     is-pair-requires
     child-b-requires
     child-a-requires
+    slice-aggregate-occurs
     occurs-requires
     returns
     returns-2
