@@ -38,7 +38,7 @@ fn main() {
     put("article.xml", &article.document);
     println!("article: {}", sizes(&article.job));
     let mut list = String::new();
-    for slow in slow::slow_jobs().into_iter().chain(slow::too_slow()) {
+    for slow in slow::slow_jobs() {
         put(&format!("slow_{}.job", slow.name), &job::write(&slow.job));
         list += &format!("{}\t{}\t{}\n", slow.name, slow.begins.trim().replace('\n', " "), slow.what);
         println!("{}: {}", slow.name, sizes(&slow.job));

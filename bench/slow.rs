@@ -252,23 +252,19 @@ fn two_definitions(content: &str, names: u32) -> Job {
 fn schemas() -> Vec<Slow> {
     let text = vec![1, NONE, 0, 1, 0, 3, 0, 1, 0, 0];
     let excepts = job(2, &format!("element * {}data start $0", "data- ".repeat(504)), true, text);
-    let rows = two_definitions("(| 1 31 & $1 $2)", 93);
+    let refs = two_definitions("& (| 1 50 $1) (| 1 50 $2)", 73);
+    let again = two_definitions("(| 1 32 & $1 $2)", 94);
     let attributes = "element 0:1 , @ (/ 1 125 #:#) text @ (/ 126 250 #:#) text start $0";
     let attributes = job(251, attributes, true, flat(&[], &[]));
     vec![
         slow("except_nested", excepts, true, 1, "data with excepts 504 deep"),
         slow("two_classes", attributes, false, 0, "two attributes of 125 names each in a group, all numbers distinct"),
-        slow("two_classes_rows", rows, false, 0, "31 interleaves of two definitions of 93 names"),
+        slow("two_classes_refs", refs, false, 0, "an interleave of 50 refs each to two definitions of 73 names"),
+        slow("interleaves_again", again, false, 0, "32 interleaves of the same two definitions of 94 names"),
     ]
 }
 
 pub fn slow_jobs() -> Vec<Slow> {
     let parts = [nested(), interleaved(), attributes(), all_definitions(), one_definition(), names(), texts(), schemas()];
     parts.into_iter().flatten().chain([wide()]).collect()
-}
-
-/// What takes longer than every job should: code 8 compares the same two name classes for each pair of refs to them.
-pub fn too_slow() -> Vec<Slow> {
-    let sides = two_definitions("& (| 1 50 $1) (| 1 50 $2)", 73);
-    vec![slow("two_classes_refs", sides, false, 0, "an interleave of 50 refs each to two definitions of 73 names")]
 }
