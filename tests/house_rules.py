@@ -2,7 +2,7 @@
 """Rules of the repository that the prover does not see. Each rule is tried at each place that it speaks of.
 
 A test file that tests/parts.txt does not list, a public function without a promise in docs/PROMISES.md or with a
-`requires`, a function without an `ensures`, a long function or proof file, a must-fail edit that no promise names or that
+`requires`, a function without an `ensures`, a long function or proof file, a wrong answer that no promise names or that
 a promise names in vain, a crate without a line in the map or in the times, a hole or an axiom in a proof, a definition
 under a name of the library.
 """
@@ -73,10 +73,9 @@ for path in sorted(glob.glob("crates/**/*.antt", recursive=True)):
     if "/specs/" in path:
         hold(not LIBRARY.search(text), f"{path} gives no name of the library another meaning")
 
-edits = sorted(glob.glob("crates/*/must-fail/*.edit"))
-labels = {os.path.basename(path)[: -len(".edit")] for path in edits}
-for label in sorted(labels | set(re.findall(r"\(`([a-z0-9_]+)`\)", promises))):
-    hold(f"(`{label}`)" in promises and label in labels, f"must-fail edit {label} and docs/PROMISES.md")
+labels = [label for path in sorted(glob.glob("crates/*/must-fail/*.edit")) for label in re.findall(r"^label: (.*)$", read(path), re.M)]
+for label in sorted(set(labels) | set(re.findall(r"\(`([a-z0-9_]+)`\)", promises))):
+    hold(f"(`{label}`)" in promises and labels.count(label) == 1, f"wrong answer {label} and docs/PROMISES.md")
 
 print(f"{passed} passed, {failed} failed")
 sys.exit(1 if failed or not passed else 0)
