@@ -1,51 +1,40 @@
--- From the verdict on schema and instance, the table of pairs and the list of it to the promises of the calls on an instance.
-use Prim.Native.Nat.{ℕ, _*_, _≤_, _<_}
-use mathlib.Core.Path.{_≡_, refl, sym, _∙_, ap, subst}
+-- From the verdict on schema and instance and the answer with the match list to the promises of the calls on an instance.
+use Prim.Native.Nat.{ℕ, _*_, _≤_}
+use mathlib.Core.Path.{_≡_, refl, sym, _∙_, ap, subst, subst⁻¹}
 use mathlib.Core.Bool.{Bool, true, false}
-use mathlib.Core.Logic.{_≢_, _↔_}
-use mathlib.Core.List.{List, List·Memᴰ}
+use mathlib.Core.List.{List}
 use native.Mathlib.Omega.{arith}
-use lib.ListN.{length, getD, take}
-use lib.Seq.{getD-take, length-take-le}
-use borrow.Author.Tests.{eq-eqb, eqb-true}
+use lib.ListN.{length, replicate, length-replicate}
 use Rattle.tables.specs.Answers.{Decides, Finds}
-use Rattle.tables.specs.Outputs.{zeros, laid}
+use Rattle.tables.specs.Outputs.{zeros}
 use Rattle.tables.specs.Refusals.{refusalOf, Tries, refused, goes-on, Passes}
 use Rattle.tables.specs.declared.Checked.{Checked}
 use Rattle.tables.specs.declared.Checked.the-variants.{Fine, Fault}
 use Rattle.tables.specs.declared.Verdict.{Verdict}
 use Rattle.tables.specs.declared.Verdict.the-variants.{Passed, Refused}
 use Rattle.tables.proofs.Chain.{tries-map, tries-go, stops, on, last-code}
-use Rattle.schema.specs.Rows.{rowsOf}
-use Rattle.schema.proofs.Sorts.{definition-kind}
-use Rattle.schema.proofs.RowLaws.{few-rows, right-size}
-use Rattle.instance.specs.Nodes.{nodesOf}
-use Rattle.instance.specs.NodeRule.{maxNodes, NodeFault, NodesRight, bad-size}
-use Rattle.instance.specs.Width.{WidthFault, FindsWidth}
+use Rattle.instance.specs.NodeRule.{NodeFault, NodesRight, bad-size}
+use Rattle.instance.specs.Width.{FindsWidth}
 use Rattle.instance.proofs.Size.{few-nodes}
-use Rattle.restrictions.proofs.Passes.{passes}
-use Rattle.definitions.specs.Definitions.{Definitions}
-use Rattle.rules.specs.Rules.{NotMatchBy, Proved}
-use Rattle.rules.specs.Job.{lookups, Pair, Valid, StartNames}
-use Rattle.rules.specs.Listed.{Lists, pairWords}
-use Rattle.rules.proofs.Inversion.{Paired, against}
-use Rattle.rules.proofs.RowPatterns.{has-kind}
+use Rattle.rules.specs.Job.{Valid}
 use Rattle.rules.proofs.Uniqueness.{unique}
-use Rattle.rules.proofs.Validity.{valid}
-use Rattle.pairs.specs.Pairs.{TablesPass, PairsRight}
-use Rattle.listing.specs.Listing.{isMarked, markedPairs, ListsPairs}
-use Rattle.listing.specs.declared.Listed.{Listed}
-use Rattle.listing.specs.declared.Listed.the-variants.{Pairs, TooShort}
-use Rattle.listing.proofs.Order.{marked-rising, marked-lists}
-use Rattle.validity.proofs.Root.{some-node, root-element}
+use Rattle.pairs.specs.Pairs.{TablesPass}
+use Rattle.matches.specs.MatchList.{MatchList, Written, Answers}
+use Rattle.matches.specs.declared.Answer.{Answer}
+use Rattle.matches.specs.declared.Answer.the-variants as answer
 use Rattle.relaxng.specs.Promises.{SchemaRefusal}
-use Rattle.relaxng.specs.Matching.{InstanceRefusal, GivesVerdict, MatchList, ListTooShort, Matched, ListsMatches}
-use Rattle.relaxng.specs.Answers.{validationVerdict, matchesVerdict, notValidated, validationOf, matchesOf}
+use Rattle.relaxng.specs.Matching.{InstanceRefusal, GivesVerdict, ListTooShort, ListsMatches}
+use Rattle.relaxng.specs.Answers.{validationVerdict, matchesVerdict, isMatched, pairCount, notValidated, validationOf, matchesOf}
 use Rattle.relaxng.specs.declared.Validation.{Validation}
 use Rattle.relaxng.specs.declared.Validation.the-variants.{NotValidated}
 use Rattle.relaxng.specs.declared.Matches.{Matches}
+use Rattle.relaxng.specs.declared.Matches.the-variants as matches
 use Rattle.relaxng.specs.declared.Matches.the-variants.{NotMatched}
 use Rattle.relaxng.proofs.Refused.{refused-passed, schema-refused, schema-passed}
+
+-- the table of pairs that the calls lend has an entry for every instance row and every schema row
+pub whole-table : 524288 ≤ length (replicate {A = ℕ} 524288 0)
+whole-table = subst⁻¹ (λ n. 524288 ≤ n) (length-replicate {A = ℕ} 524288 0) (omega arith)
 
 module _ {bytes ends s t : List ℕ} where
   -- ---- codes 9 and 10 after the schema's
@@ -86,9 +75,6 @@ module _ {bytes ends s t : List ℕ} where
   pub tables-pass : {v : Verdict} → v ≡ Passed → InstanceRefusal bytes ends s t Passes v → TablesPass bytes ends s t
   tables-pass e r = tables-of (subst (InstanceRefusal bytes ends s t Passes) e r)
 
-  pub nodes-few : {v : Verdict} → v ≡ Passed → InstanceRefusal bytes ends s t Passes v → nodesOf t ≤ maxNodes
-  nodes-few e r = few-nodes (λ k i. tables-pass e r .nodes k (bad-size i))
-
   -- ---- the verdict
 
   pub refused-verdict : {v : Verdict} {code place : ℕ} {a : Validation} → InstanceRefusal bytes ends s t Passes v → v ≡ Refused code place → a ≡ notValidated v → GivesVerdict bytes ends s t a
@@ -103,62 +89,15 @@ module _ {bytes ends s t : List ℕ} where
       go true d = record { refusal = subst (InstanceRefusal bytes ends s t Passes) e r; answer = λ p. d }
       go false d = record { refusal = subst (InstanceRefusal bytes ends s t Passes) e r; answer = λ p. d }
 
-  -- ---- the list
-
-  module _ (pass : TablesPass bytes ends s t) where
-    -- an element is a pair with a definition exactly by the premises of (element)
-    proved : (e d : ℕ) → Proved (lookups bytes ends s t) e d ↔ Paired (lookups bytes ends s t) (NotMatchBy (lookups bytes ends s t) (rowsOf s)) e d
-    proved e d = against (lookups bytes ends s t) (NotMatchBy (lookups bytes ends s t) (rowsOf s)) e d
-
-    module _ {table rows : List ℕ} {n : ℕ} (right : PairsRight bytes ends s t table) (definitions : Definitions s rows n) (room : n ≤ length rows) where
-      size : length (take n rows) ≡ n
-      size = length-take-le n rows room
-
-      at : (k : ℕ) → k < n → getD (take n rows) k 0 ≡ getD rows k 0
-      at k h = getD-take n rows k 0 h
-
-      pub is-match-list : MatchList bytes ends s t (markedPairs table (take n rows) (nodesOf t))
-      is-match-list = record { rising = marked-rising table (take n rows) rising (nodesOf t); lists = marked-lists table (take n rows) rising (Pair bytes ends s t) (nodesOf t) sound complete }
-        where
-          rising : (j k : ℕ) → j < k → k < length (take n rows) → getD (take n rows) j 0 < getD (take n rows) k 0
-          rising j k i h =
-              let l : k < n = subst (λ (m : ℕ). k < m) size h in
-              let x = at j (omega arith) in
-              let y = at k l in
-              let z = definitions .rising j k i l in
-              omega arith
-
-          sound : (e k : ℕ) → e < nodesOf t → k < length (take n rows) → isMarked table e (getD (take n rows) k 0) ≡ true → Pair bytes ends s t e (getD (take n rows) k 0)
-          sound e k h l m =
-              let i : k < n = subst (λ (m : ℕ). k < m) size l in
-              let x = at k i in
-              let y = definitions .rows k i in
-              let p = right .entries e (getD (take n rows) k 0) (omega arith) h (omega arith) .0 (eqb-true _ _ m) in
-              (h, p .0, proved e (getD (take n rows) k 0) .1 (p .1))
-
-          complete : (e d : ℕ) → Pair bytes ends s t e d → (e < nodesOf t) × (k : ℕ) × (k < length (take n rows)) × (getD (take n rows) k 0 ≡ d) × (isMarked table e d ≡ true)
-          complete e d p =
-              let q = proved e d .0 (p .2) in
-              let l = has-kind (pass .schema .rows) (definition-kind s d (q .defined)) (λ z. omega arith) in
-              let k = definitions .every d l (q .defined) in
-              (p .0, k .0, subst (λ (m : ℕ). k .0 < m) (sym size) (k .1), at (k .0) (k .1) ∙ k .2, eq-eqb _ _ (right .entries e d (omega arith) (p .0) l .1 (p .1, q)))
-
-    -- valid by 9.4, and by the pairs of the root
-    root-paired : {l : List (ℕ × ℕ)} → MatchList bytes ends s t l → Valid bytes ends s t ↔ ((d : ℕ) × StartNames bytes ends s t d × List·Memᴰ (0, d) l)
-    root-paired m =
-        let v = valid (pass .schema) bytes ends t in (
-          λ x. let y = v .0 x in (y .0, y .1, m .lists .complete 0 (y .0) (some-node (pass .nodes), root-element (pass .nodes), y .2)),
-          λ y. v .1 (y .0, y .1, m .lists .sound 0 (y .0) (y .2) .2),
-        )
-
-decides-same : {A B : Type 0} → A ↔ B → (r : Bool) → Decides A r → Decides B r
-decides-same f true x = f .0 x
-decides-same f false x = λ b. x (f .1 b)
-
-not-too-short : {n : ℕ} → Pairs n ≡ TooShort → ⊥
-not-too-short e = let z : _≡_ {A = ℕ} 0 1 = cc in omega arith
-
 -- ---- the answers of the call for the match list
+
+-- a match list that fits is the only one
+no-shorter : {bytes ends s t : List ℕ} {room : ℕ} {l : List (ℕ × ℕ)} → MatchList bytes ends s t l → length l * 2 ≤ room → (i : ℕ) → ¬ ListTooShort bytes ends s t room i
+no-shorter all fit i x =
+    let same = unique (x .2 .rising) (x .2 .lists) (all .rising) (all .lists) in
+    let y = ap length same in
+    let z = x .3 in
+    omega arith
 
 module _ {bytes ends s t : List ℕ} {v : Verdict} (r : InstanceRefusal bytes ends s t Passes v) (room : ℕ) {list : List ℕ} where
   -- codes 1 to 10
@@ -169,51 +108,23 @@ module _ {bytes ends s t : List ℕ} {v : Verdict} (r : InstanceRefusal bytes en
     zeroed = λ n. z;
   }
 
-  module _ (e : v ≡ Passed) {table rows : List ℕ} {n : ℕ} (right : TablesPass bytes ends s t → PairsRight bytes ends s t table) (definitions : rowsOf s ≤ 512 → Definitions s rows n) (long : n ≤ length rows)
-      {nodes : ℕ} (is-nodes : nodes ≡ nodesOf t) {answer : Listed} (lists : ListsPairs table (take n rows) nodes room list answer) where
-    pass : TablesPass bytes ends s t
-    pass = tables-pass e r
-
-    listed-pairs : List (ℕ × ℕ)
-    listed-pairs = markedPairs table (take n rows) nodes
-
-    all : MatchList bytes ends s t (markedPairs table (take n rows) nodes)
-    all = rw is-nodes (is-match-list pass (right pass) (definitions (few-rows (right-size (pass .schema .rows)))) long)
-
-    -- code 12
-    pub short-list : n ≤ 512 → answer ≡ TooShort → ListsMatches bytes ends s t room list (NotMatched 12 0)
-    short-list few f = record {
-      refusal = instance-passed e r (refused 0 (refl, markedPairs table (take n rows) nodes, all, lists .too-short f (rw is-nodes (few-nodes (λ k i. pass .nodes k (bad-size i)))) (rw (length-take-le n rows long) few)) (λ i h. absurd (omega arith)));
-      matched = λ p. absurd (refused-passed p);
-      zeroed = λ p. lists .zeroed f;
+  module _ (e : v ≡ Passed) where
+    passed-list : (a : Matches) → matchesVerdict a ≡ Passed → {l : List (ℕ × ℕ)} → MatchList bytes ends s t l → Written bytes ends s t l room list (pairCount a) (isMatched a) → ListsMatches bytes ends s t room list a
+    passed-list a p {l} all w = record {
+      refusal = instance-passed e r (goes-on (no-shorter all (w .fit)) p);
+      matched = λ q. record { pairs = l; all = all; fit = w .fit; words = w .words; number = w .counted; valid = w .rooted; derived = w .derived };
+      zeroed = λ n. absurd (n p);
     }
 
-    -- nothing is refused
-    pub whole-list : {number : ℕ} (valid : Bool) {a : Matches} → answer ≡ Pairs number → (TablesPass bytes ends s t → Decides (Valid bytes ends s t) valid) → a ≡ matchesOf valid number → ListsMatches bytes ends s t room list a
-    whole-list {number} valid {a} f decided g = rw g (go valid (decided pass))
+    -- code 12, or nothing is refused
+    pub whole-list : (x : Answer) → (TablesPass bytes ends s t → Answers bytes ends s t room list x) → {a : Matches} → a ≡ matchesOf x → ListsMatches bytes ends s t room list a
+    whole-list x answers f = rw f (go x (answers (tables-pass e r)))
       where
-        count : number ≡ length (markedPairs table (take n rows) nodes)
-        count = lists .listed number f .0
-
-        fits : length (markedPairs table (take n rows) nodes) * 2 ≤ room
-        fits = let x = lists .fits number f in let y = count in omega arith
-
-        no-shorter : (i : ℕ) → ¬ ListTooShort bytes ends s t room i
-        no-shorter i x =
-            let same = unique (x .2 .rising) (x .2 .lists) (all .rising) (all .lists) in
-            let y = ap length same in
-            let z = x .3 in
-            let w = fits in
-            omega arith
-
-        go : (valid : Bool) → Decides (Valid bytes ends s t) valid → ListsMatches bytes ends s t room list (matchesOf valid number)
-        go true d = record {
-          refusal = instance-passed e r (goes-on no-shorter refl);
-          matched = λ p. record { pairs = markedPairs table (take n rows) nodes; all = all; fit = fits; words = lists .listed number f .1; number = count; valid = decides-same (root-paired pass all) true d; derived = d };
-          zeroed = λ p. absurd (p refl);
-        }
-        go false d = record {
-          refusal = instance-passed e r (goes-on no-shorter refl);
-          matched = λ p. record { pairs = markedPairs table (take n rows) nodes; all = all; fit = fits; words = lists .listed number f .1; number = count; valid = decides-same (root-paired pass all) false d; derived = d };
-          zeroed = λ p. absurd (p refl);
+        go : (x : Answer) → Answers bytes ends s t room list x → ListsMatches bytes ends s t room list (matchesOf x)
+        go (answer.Valid number) y = passed-list (matches.Valid number) refl (y .all) (y .says)
+        go (answer.NotValid number) y = passed-list (matches.NotValid number) refl (y .all) (y .says)
+        go answer.TooShort y = record {
+          refusal = instance-passed e r (refused 0 (refl, y .pairs, y .all, y .says .0) (λ i h. absurd (omega arith)));
+          matched = λ p. absurd (refused-passed p);
+          zeroed = λ p. y .says .1;
         }

@@ -12,6 +12,8 @@ use Rattle.relaxng.specs.declared.Validation.the-variants.{Valid, NotVal
 use Rattle.relaxng.specs.declared.Matches.{Matches}
 use Rattle.relaxng.specs.declared.Matches.the-variants as matches
 use Rattle.relaxng.specs.declared.Matches.the-variants.{NotMatched}
+use Rattle.matches.specs.declared.Answer.{Answer}
+use Rattle.matches.specs.declared.Answer.the-variants as answer
 use Rattle.classes.specs.declared.Found.{Found}
 use Rattle.classes.specs.declared.Found.the-variants.{Name, Nothing}
 
@@ -83,10 +85,11 @@ abbrev pub notMatched : Verdict → Matches
 notMatched Passed = NotMatched 0 0
 notMatched (Refused code place) = NotMatched code place
 
--- the answer where nothing is refused
-abbrev pub matchesOf : Bool → ℕ → Matches
-matchesOf true pairs = matches.Valid pairs
-matchesOf false pairs = matches.NotValid pairs
+-- the answer where no code below 12 refuses
+abbrev pub matchesOf : Answer → Matches
+matchesOf (answer.Valid pairs) = matches.Valid pairs
+matchesOf (answer.NotValid pairs) = matches.NotValid pairs
+matchesOf answer.TooShort = NotMatched 12 0
 
 abbrev pub validationOf : Bool → Validation
 validationOf true = Valid

@@ -11,8 +11,9 @@ use Rattle.tables.specs.declared.Verdict.{Verdict}
 use Rattle.tables.specs.declared.Verdict.the-variants.{Passed}
 use Rattle.instance.specs.NodeRule.{NodeFault}
 use Rattle.instance.specs.Width.{WidthFault}
-use Rattle.rules.specs.Job.{Pair, Valid, StartNames}
-use Rattle.rules.specs.Listed.{Rising, Lists, pairWords}
+use Rattle.rules.specs.Job.{Valid, StartNames}
+use Rattle.rules.specs.Listed.{pairWords}
+use Rattle.matches.specs.MatchList.{MatchList}
 use Rattle.relaxng.specs.Answers.{validationVerdict, matchesVerdict, isValid, isMatched, pairCount}
 use Rattle.relaxng.specs.Promises.{SchemaRefusal}
 use Rattle.relaxng.specs.declared.Validation.{Validation}
@@ -26,11 +27,6 @@ InstanceRefusal bytes ends s t next = SchemaRefusal bytes ends s (Tries 9 (NodeF
 pub record GivesVerdict (bytes ends s t : List ℕ) (r : Validation) : Type 0 where
   pub refusal : InstanceRefusal bytes ends s t Passes (validationVerdict r)
   pub answer : validationVerdict r ≡ Passed → Decides (Valid bytes ends s t) (isValid r)
-
--- l is all pairs of an element and a definition that it is proved against, by element and then by definition, each once
-pub record MatchList (bytes ends s t : List ℕ) (l : List (ℕ × ℕ)) : Type 0 where
-  pub rising : Rising l
-  pub lists : Lists (Pair bytes ends s t) l
 
 -- code 12: twice the number of pairs is more than the words lent
 abbrev pub ListTooShort : (bytes ends s t : List ℕ) (room place : ℕ) → Type 0

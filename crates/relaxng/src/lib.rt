@@ -1,6 +1,6 @@
 // The public calls.
 use classes::Found;
-use listing::Listed;
+use matches::Answer;
 use tables::Checked;
 use tables::Verdict;
 ghost use mathlib.Core.Path.{_≡_};
@@ -179,14 +179,14 @@ fn not_matched(verdict: Verdict) -> Matches
     }
 }
 
-// Valid or not, with the number of pairs.
-fn matches_of(valid: bool, pairs: u32) -> Matches
-    ensures { λ r. ⌜ r ≡ matchesOf valid pairs ⌝ }
+// The answer with the match list, where no code below 12 refuses: a list that is too short has code 12 at 0.
+fn matches_of(answer: Answer) -> Matches
+    ensures { λ r. ⌜ r ≡ matchesOf answer ⌝ }
 {
-    if valid {
-        Matches::Valid(pairs)
-    } else {
-        Matches::NotValid(pairs)
+    match answer {
+        Answer::Valid(pairs) => Matches::Valid(pairs),
+        Answer::NotValid(pairs) => Matches::NotValid(pairs),
+        Answer::TooShort => Matches::NotMatched(12, 0),
     }
 }
 
@@ -206,13 +206,5 @@ pub fn match_list(
         return not_matched(passed);
     };
     let mut pairs = [0u8; 524288];
-    pairs::pair_table(bytes, ends, schema, instance, &mut pairs);
-    let mut rows = [0u32; 512];
-    let n = definitions::definitions(schema, &mut rows) as usize;
-    let nodes = instance.len() / 5;
-    let listed = listing::list_pairs(&pairs, &rows[..n], nodes as u32, list);
-    let Listed::Pairs(number) = listed else {
-        return Matches::NotMatched(12, 0);
-    };
-    matches_of(validity::valid(schema, &pairs), number)
+    matches_of(matches::match_pairs(bytes, ends, schema, instance, &mut pairs, list))
 }

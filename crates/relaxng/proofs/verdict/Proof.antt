@@ -1,10 +1,9 @@
-use Prim.Native.Nat.{ℕ, _≤_}
-use mathlib.Core.Path.{refl, subst, subst⁻¹}
+use Prim.Native.Nat.{ℕ}
+use mathlib.Core.Path.{refl, sym, subst}
 use mathlib.Core.Bool.{true, false}
-use native.Mathlib.Omega.{arith}
-use lib.ListN.{length, replicate, length-replicate}
+use lib.ListN.{length-replicate}
 use Rattle.tables.specs.Answers.{Decides}
-use Rattle.relaxng.proofs.Matched.{refused-verdict, whole-verdict}
+use Rattle.relaxng.proofs.Matched.{whole-table, refused-verdict, whole-verdict}
 use borrow.Author.Needs.{needs}
 use Rattle.relaxng.proofs.verdict.Statement.{statement}
 use Rattle.relaxng.proofs.verdict.Tie as tie
@@ -31,26 +30,22 @@ returns : tie.Need-returns
 returns c = refused-verdict (c .before .before .before .instance-verdict .ensures) (c .before .enum-told2 .given .1) (c .not-validated .ensures)
 
 slice-aggregate-pair-table : tie.Need-slice-aggregate-pair-table
-slice-aggregate-pair-table c = search needs
+slice-aggregate-pair-table c = sym (length-replicate {A = ℕ} 524288 0)
 
 pair-table-requires : tie.Need-pair-table-requires
 pair-table-requires c κs = search needs
 
 slice-aggregate-valid : tie.Need-slice-aggregate-valid
-slice-aggregate-valid c = search needs
+slice-aggregate-valid c = sym (c .before .pairs2 .given)
 
 valid-requires : tie.Need-valid-requires
 valid-requires c κs = search needs
 
 returns-2 : tie.Need-returns-2
-returns-2 c =
-    let long : 524288 ≤ length (replicate {A = ℕ} 524288 0) = subst⁻¹ (λ n. 524288 ≤ n) (length-replicate {A = ℕ} 524288 0) (omega arith) in
-    whole-verdict (c .before .before .before .before .before .before .before .before .instance-verdict .ensures) (c .before .before .before .before .before .before .enum-told .given .1) true (λ p. subst (Decides _) (c .if1 .taken) (c .before .valid .ensures _ _ _ p (c .before .before .before .before .pair-table .ensures long p))) refl
+returns-2 c = whole-verdict (c .before .before .before .before .before .before .before .before .instance-verdict .ensures) (c .before .before .before .before .before .before .enum-told .given .1) true (λ p. subst (Decides _) (c .if1 .taken) (c .before .valid .ensures _ _ _ p (c .before .before .before .before .pair-table .ensures whole-table p))) refl
 
 returns-3 : tie.Need-returns-3
-returns-3 c =
-    let long : 524288 ≤ length (replicate {A = ℕ} 524288 0) = subst⁻¹ (λ n. 524288 ≤ n) (length-replicate {A = ℕ} 524288 0) (omega arith) in
-    whole-verdict (c .before .before .before .before .before .before .before .before .instance-verdict .ensures) (c .before .before .before .before .before .before .enum-told .given .1) false (λ p. subst (Decides _) (c .if1 .left) (c .before .valid .ensures _ _ _ p (c .before .before .before .before .pair-table .ensures long p))) refl
+returns-3 c = whole-verdict (c .before .before .before .before .before .before .before .before .instance-verdict .ensures) (c .before .before .before .before .before .before .enum-told .given .1) false (λ p. subst (Decides _) (c .if1 .left) (c .before .valid .ensures _ _ _ p (c .before .before .before .before .pair-table .ensures whole-table p))) refl
 
 pub verdict-spec : {M : Type 1} → statement M
 verdict-spec =

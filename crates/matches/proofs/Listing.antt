@@ -1,0 +1,112 @@
+-- From the table of pairs, the definitions and the list of what the table marks to the match list and the answer.
+use Prim.Native.Nat.{ℕ, _≤_, _<_}
+use mathlib.Core.Path.{_≡_, sym, _∙_, subst}
+use mathlib.Core.Bool.{Bool, true, false}
+use mathlib.Core.Logic.{_↔_}
+use mathlib.Core.List.{List, List·Memᴰ}
+use native.Mathlib.Omega.{arith}
+use lib.ListN.{length, getD, take}
+use lib.Seq.{getD-take, length-take-le}
+use borrow.Author.Tests.{eq-eqb, eqb-true}
+use Rattle.tables.specs.Answers.{Decides}
+use Rattle.schema.specs.Rows.{rowsOf}
+use Rattle.schema.proofs.Sorts.{definition-kind}
+use Rattle.schema.proofs.RowLaws.{few-rows, right-size}
+use Rattle.instance.specs.Nodes.{nodesOf}
+use Rattle.instance.specs.NodeRule.{maxNodes, bad-size}
+use Rattle.instance.proofs.Size.{few-nodes}
+use Rattle.definitions.specs.Definitions.{Definitions}
+use Rattle.rules.specs.Rules.{NotMatchBy, Proved}
+use Rattle.rules.specs.Job.{lookups, Pair, Valid, StartNames}
+use Rattle.rules.proofs.Inversion.{Paired, against}
+use Rattle.rules.proofs.RowPatterns.{has-kind}
+use Rattle.rules.proofs.Validity.{valid}
+use Rattle.pairs.specs.Pairs.{TablesPass, PairsRight}
+use Rattle.listing.specs.Listing.{isMarked, markedPairs, ListsPairs}
+use Rattle.listing.specs.declared.Listed.{Listed}
+use Rattle.listing.specs.declared.Listed.the-variants as listed
+use Rattle.listing.proofs.Order.{marked-rising, marked-lists}
+use Rattle.validity.proofs.Root.{some-node, root-element}
+use Rattle.matches.specs.MatchList.{MatchList, Written, Answers}
+use Rattle.matches.specs.declared.Answer.the-variants as answer
+
+decides-same : {A B : Type 0} → A ↔ B → (r : Bool) → Decides A r → Decides B r
+decides-same f true x = f .0 x
+decides-same f false x = λ b. x (f .1 b)
+
+module _ {bytes ends s t : List ℕ} (pass : TablesPass bytes ends s t) where
+  pub nodes-few : nodesOf t ≤ maxNodes
+  nodes-few = few-nodes (λ k i. pass .nodes k (bad-size i))
+
+  -- an element is a pair with a definition exactly by the premises of (element)
+  proved : (e d : ℕ) → Proved (lookups bytes ends s t) e d ↔ Paired (lookups bytes ends s t) (NotMatchBy (lookups bytes ends s t) (rowsOf s)) e d
+  proved e d = against (lookups bytes ends s t) (NotMatchBy (lookups bytes ends s t) (rowsOf s)) e d
+
+  -- valid by 9.4, and by the pairs of the root
+  root-paired : {l : List (ℕ × ℕ)} → MatchList bytes ends s t l → Valid bytes ends s t ↔ ((d : ℕ) × StartNames bytes ends s t d × List·Memᴰ (0, d) l)
+  root-paired m =
+      let v = valid (pass .schema) bytes ends t in (
+        λ x. let y = v .0 x in (y .0, y .1, m .lists .complete 0 (y .0) (some-node (pass .nodes), root-element (pass .nodes), y .2)),
+        λ y. v .1 (y .0, y .1, m .lists .sound 0 (y .0) (y .2) .2),
+      )
+
+  module _ {table rows : List ℕ} {n : ℕ} (right : PairsRight bytes ends s t table) (definitions : Definitions s rows n) (room : n ≤ length rows) where
+    size : length (take n rows) ≡ n
+    size = length-take-le n rows room
+
+    at : (k : ℕ) → k < n → getD (take n rows) k 0 ≡ getD rows k 0
+    at k h = getD-take n rows k 0 h
+
+    is-match-list : MatchList bytes ends s t (markedPairs table (take n rows) (nodesOf t))
+    is-match-list = record { rising = marked-rising table (take n rows) rising (nodesOf t); lists = marked-lists table (take n rows) rising (Pair bytes ends s t) (nodesOf t) sound complete }
+      where
+        rising : (j k : ℕ) → j < k → k < length (take n rows) → getD (take n rows) j 0 < getD (take n rows) k 0
+        rising j k i h =
+            let l : k < n = subst (λ (m : ℕ). k < m) size h in
+            let x = at j (omega arith) in
+            let y = at k l in
+            let z = definitions .rising j k i l in
+            omega arith
+
+        sound : (e k : ℕ) → e < nodesOf t → k < length (take n rows) → isMarked table e (getD (take n rows) k 0) ≡ true → Pair bytes ends s t e (getD (take n rows) k 0)
+        sound e k h l m =
+            let i : k < n = subst (λ (m : ℕ). k < m) size l in
+            let x = at k i in
+            let y = definitions .rows k i in
+            let p = right .entries e (getD (take n rows) k 0) (omega arith) h (omega arith) .0 (eqb-true _ _ m) in
+            (h, p .0, proved e (getD (take n rows) k 0) .1 (p .1))
+
+        complete : (e d : ℕ) → Pair bytes ends s t e d → (e < nodesOf t) × (k : ℕ) × (k < length (take n rows)) × (getD (take n rows) k 0 ≡ d) × (isMarked table e d ≡ true)
+        complete e d p =
+            let q = proved e d .0 (p .2) in
+            let l = has-kind (pass .schema .rows) (definition-kind s d (q .defined)) (λ z. omega arith) in
+            let k = definitions .every d l (q .defined) in
+            (p .0, k .0, subst (λ (m : ℕ). k .0 < m) (sym size) (k .1), at (k .0) (k .1) ∙ k .2, eq-eqb _ _ (right .entries e d (omega arith) (p .0) l .1 (p .1, q)))
+
+  -- ---- the answers
+
+  module _ {table rows : List ℕ} {n : ℕ} (right : PairsRight bytes ends s t table) (definitions : rowsOf s ≤ 512 → Definitions s rows n) (long : n ≤ length rows)
+      {room : ℕ} {list : List ℕ} {r : Listed} (lists : ListsPairs table (take n rows) (nodesOf t) room list r) where
+    all : MatchList bytes ends s t (markedPairs table (take n rows) (nodesOf t))
+    all = is-match-list right (definitions (few-rows (right-size (pass .schema .rows)))) long
+
+    pub too-short : n ≤ 512 → r ≡ listed.TooShort → Answers bytes ends s t room list answer.TooShort
+    too-short few e = record {
+      pairs = markedPairs table (take n rows) (nodesOf t);
+      all = all;
+      says = (lists .too-short e nodes-few (rw (length-take-le n rows long) few), lists .zeroed e);
+    }
+
+    module _ {number : ℕ} (e : r ≡ listed.Pairs number) where
+      whole : (valid : Bool) → Decides (Valid bytes ends s t) valid → Written bytes ends s t (markedPairs table (take n rows) (nodesOf t)) room list number valid
+      whole valid d =
+          let c = lists .listed number e in
+          let f = lists .fits number e in
+          let k = c .0 in
+          record { fit = omega arith; words = c .1; counted = c .0; rooted = decides-same (root-paired all) valid d; derived = d }
+
+      pub is-valid : Decides (Valid bytes ends s t) true → Answers bytes ends s t room list (answer.Valid number)
+      is-valid d = record { pairs = markedPairs table (take n rows) (nodesOf t); all = all; says = whole true d }
+
+      pub not-valid : Decides (Valid bytes ends s t) false → Answers bytes ends s t room list (answer.NotValid number)
+      not-valid d = record { pairs = markedPairs table (take n rows) (nodesOf t); all = all; says = whole false d }
