@@ -1,5 +1,5 @@
 -- A test of a row of the table of cases, and that a row that succeeds holds.
-use Prim.Native.Nat.{ℕ, zero, suc, _<_}
+use Prim.Native.Nat.{ℕ, _<_}
 use mathlib.Core.Path.{_≡_, refl, sym, subst}
 use mathlib.Core.Bool.{Bool, true, false, not, _&&_, _||_, false≢true}
 use mathlib.Core.List.{List, [], _∷_, List·Memᴰ, List·Memᴰ·head, List·Memᴰ·tail}
@@ -15,7 +15,8 @@ use Rattle.schema.proofs.RowLaws.{in-table, right-size}
 use Rattle.schema.proofs.Sorts.{definition-kind}
 use Rattle.strings.specs.Strings.{StringsRight}
 use Rattle.instance.specs.Nodes.{nodesOf}
-use Rattle.instance.specs.NodeRule.{no-node, bad-size, NodesRight}
+use Rattle.instance.specs.NodeRule.{NodesRight}
+use Rattle.instance.proofs.Size.{some-node}
 use Rattle.instance.specs.Elements.{isElement}
 use Rattle.restrictions.proofs.Passes.{SchemaPasses, passes}
 use Rattle.relaxng.specs.Promises.{SchemaRefusal}
@@ -148,13 +149,6 @@ module _ (r : Row) where
     valid-is : (valid : Bool) → validIs valid ≡ true → IsValid valid (r .bytes) (r .ends) s t
     valid-is valid h = go valid h (valid-decided (r .bytes) (r .ends) s t (strings-of refusal) (passes-of refusal) nodes (some-node nodes))
       where
-        some-node : NodesRight (length (r .ends)) t → 0 < nodesOf t
-        some-node right = at (nodesOf t) refl
-          where
-            at : (n : ℕ) → nodesOf t ≡ n → 0 < n
-            at zero e = absurd (right 0 (bad-size (no-node e refl)))
-            at (suc n) e = omega arith
-
         go : (valid : Bool) → validIs valid ≡ true → (validTest (r .bytes) (r .ends) s t ≡ true) ↔ Valid (r .bytes) (r .ends) s t → IsValid valid (r .bytes) (r .ends) s t
         go true h f = f .0 h
         go false h f = λ v. no-of h (f .1 v)

@@ -69,10 +69,6 @@ itemized-more t {before} {words} {after} {k} {v} p q h = record {
 }
 
 -- a row counts 1 or 0
-pub one-or-none : (b : Bool) {m : ℕ} → m ≡ cond b 1 0 → m ≤ 1
-one-or-none true e = omega arith
-one-or-none false e = omega arith
-
 -- the attributes of e, as they are counted
 module _ (t : List ℕ) (e n : ℕ) where
   abbrev pub AttributesTo : Type 0

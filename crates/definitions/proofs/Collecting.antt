@@ -80,10 +80,6 @@ count-none s d f = go (isDefinition s d) refl
     go false e = refl
 
 -- at most one row more is counted
-pub one-or-none : (b : Bool) {m : ℕ} → m ≡ cond b 1 0 → m ≤ 1
-one-or-none true e = omega arith
-one-or-none false e = omega arith
-
 -- the definitions as a list of their own
 pub definitions-part : {s words : List ℕ} {n : ℕ} → n ≤ length words → Definitions s words n → Definitions s (take n words) (length (take n words))
 definitions-part {s} {words} {n} l d = rw (length-take-le n words l) (record {

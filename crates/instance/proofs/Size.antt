@@ -2,13 +2,13 @@
 use mathlib.Core.Path.{_≡_, refl}
 use mathlib.Core.Logic.{_≢_}
 use mathlib.Core.List.{List}
-use Prim.Native.Nat.{ℕ, _%_, _≤_, _<_}
+use Prim.Native.Nat.{ℕ, zero, suc, _%_, _≤_, _<_}
 use native.Mathlib.Omega.{arith}
 use lib.ListN.{length}
 use Rattle.tables.specs.Answers.{Clear}
 use Rattle.tables.proofs.Numbers.{not-less}
 use Rattle.instance.specs.Nodes.{nodesOf}
-use Rattle.instance.specs.NodeRule.{maxNodes, SizeFault, no-node, too-many-nodes, broken-length, NodeFault, bad-size, bad-node}
+use Rattle.instance.specs.NodeRule.{maxNodes, SizeFault, no-node, too-many-nodes, broken-length, NodeFault, NodesRight, bad-size, bad-node}
 use Rattle.instance.specs.Walk.{BadNode}
 
 pub size-right : {t : List ℕ} → nodesOf t ≢ 0 → nodesOf t ≤ maxNodes → length t % 5 ≡ 0 → (r : ℕ) → ¬ SizeFault t r
@@ -36,3 +36,10 @@ module _ {t : List ℕ} (right : (r : ℕ) → ¬ SizeFault t r) where
   pub only-nodes : {strings : ℕ} (r : ℕ) → NodeFault strings t r → BadNode strings t r
   only-nodes r (bad-size f) = absurd (right r f)
   only-nodes r (bad-node h f) = (h, f)
+
+pub some-node : {strings : ℕ} {t : List ℕ} → NodesRight strings t → 0 < nodesOf t
+some-node {strings} {t} right = at (nodesOf t) refl
+  where
+    at : (n : ℕ) → nodesOf t ≡ n → 0 < n
+    at zero e = absurd (right 0 (bad-size (no-node e refl)))
+    at (suc n) e = omega arith

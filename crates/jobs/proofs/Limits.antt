@@ -18,7 +18,7 @@ use Rattle.jobs.specs.Lines.{linesOf, isEnded, fieldsOf, after}
 use Rattle.jobs.specs.Reading.{Tables, noTables, Reading, read, wrong, maxFile, andThen, lineBy, line, lines, literal, atMost, count, withString, addString, wordsOf, rowOf, addRow, addNode, nothingMore, readLines, readJob}
 
 -- a reading that is right is not wrong
-not-wrong : {n : ℕ} {t : Tables} → wrong n ≡ read t → ⊥
+pub not-wrong : {n : ℕ} {t : Tables} → wrong n ≡ read t → ⊥
 not-wrong e = let z : _≡_ {A = ℕ} 0 1 = cc in omega arith
 
 none-some : {A : Type 0} {a : A} → none ≡ some a → ⊥

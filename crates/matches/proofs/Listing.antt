@@ -14,7 +14,7 @@ use Rattle.schema.proofs.Sorts.{definition-kind}
 use Rattle.schema.proofs.RowLaws.{few-rows, right-size}
 use Rattle.instance.specs.Nodes.{nodesOf}
 use Rattle.instance.specs.NodeRule.{maxNodes, bad-size}
-use Rattle.instance.proofs.Size.{few-nodes}
+use Rattle.instance.proofs.Size.{few-nodes, some-node}
 use Rattle.definitions.specs.Definitions.{Definitions}
 use Rattle.rules.specs.Rules.{NotMatchBy, Proved}
 use Rattle.rules.specs.Job.{lookups, Pair, Valid, StartNames}
@@ -26,7 +26,7 @@ use Rattle.listing.specs.Listing.{isMarked, markedPairs, ListsPairs}
 use Rattle.listing.specs.declared.Listed.{Listed}
 use Rattle.listing.specs.declared.Listed.the-variants as listed
 use Rattle.listing.proofs.Order.{marked-rising, marked-lists}
-use Rattle.validity.proofs.Root.{some-node, root-element}
+use Rattle.validity.proofs.Root.{root-element}
 use Rattle.matches.specs.MatchList.{MatchList, Written, Answers}
 use Rattle.matches.specs.declared.Answer.the-variants as answer
 

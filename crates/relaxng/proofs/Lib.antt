@@ -1,3 +1,4 @@
 pub mod Matched
 pub mod Refused
 pub mod RoundTrip
+pub mod Same

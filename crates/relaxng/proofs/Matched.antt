@@ -112,7 +112,7 @@ module _ {bytes ends s t : List ℕ} {v : Verdict} (r : InstanceRefusal bytes en
     passed-list : (a : Matches) → matchesVerdict a ≡ Passed → {l : List (ℕ × ℕ)} → MatchList bytes ends s t l → Written bytes ends s t l room list (pairCount a) (isMatched a) → ListsMatches bytes ends s t room list a
     passed-list a p {l} all w = record {
       refusal = instance-passed e r (goes-on (no-shorter all (w .fit)) p);
-      matched = λ q. record { pairs = l; all = all; fit = w .fit; words = w .words; number = w .counted; valid = w .rooted; derived = w .derived };
+      matched = λ q. record { pairs = l; all = all; written = w };
       zeroed = λ n. absurd (n p);
     }
 

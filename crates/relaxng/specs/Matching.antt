@@ -1,19 +1,18 @@
 -- What the calls on a schema and an instance promise: valid or not, and the match list.
-use Prim.Native.Nat.{ℕ, _*_, _≤_, _<_}
+use Prim.Native.Nat.{ℕ, _*_, _<_}
 use mathlib.Core.Path.{_≡_}
 use mathlib.Core.Logic.{_≢_}
-use mathlib.Core.List.{List, List·Memᴰ}
+use mathlib.Core.List.{List}
 use lib.ListN.{length}
 use Rattle.tables.specs.Answers.{Decides}
-use Rattle.tables.specs.Outputs.{zeros, laid}
+use Rattle.tables.specs.Outputs.{zeros}
 use Rattle.tables.specs.Refusals.{Tries, Passes}
 use Rattle.tables.specs.declared.Verdict.{Verdict}
 use Rattle.tables.specs.declared.Verdict.the-variants.{Passed}
 use Rattle.instance.specs.NodeRule.{NodeFault}
 use Rattle.instance.specs.Width.{WidthFault}
-use Rattle.rules.specs.Job.{Valid, StartNames}
-use Rattle.rules.specs.Listed.{pairWords}
-use Rattle.matches.specs.MatchList.{MatchList}
+use Rattle.rules.specs.Job.{Valid}
+use Rattle.matches.specs.MatchList.{MatchList, Written}
 use Rattle.relaxng.specs.Answers.{validationVerdict, matchesVerdict, isValid, isMatched, pairCount}
 use Rattle.relaxng.specs.Promises.{SchemaRefusal}
 use Rattle.relaxng.specs.declared.Validation.{Validation}
@@ -32,17 +31,11 @@ pub record GivesVerdict (bytes ends s t : List ℕ) (r : Validation) : Type 0 wh
 abbrev pub ListTooShort : (bytes ends s t : List ℕ) (room place : ℕ) → Type 0
 ListTooShort bytes ends s t room place = (place ≡ 0) × (l : List (ℕ × ℕ)) × MatchList bytes ends s t l × (room < length l * 2)
 
--- the match list in a buffer of so many words, the number of pairs and the answer
+-- the match list in a buffer of so many words, the number of its pairs, and valid exactly when a derivation by (valid) of 9.4 exists
 pub record Matched (bytes ends s t : List ℕ) (room : ℕ) (list : List ℕ) (r : Matches) : Type 0 where
   pub pairs : List (ℕ × ℕ)
   pub all : MatchList bytes ends s t pairs
-  pub fit : length pairs * 2 ≤ room
-  -- the two words of each pair in order, then zeros
-  pub words : list ≡ laid room (pairWords pairs)
-  pub number : pairCount r ≡ length pairs
-  -- valid exactly when the root is paired with a definition that the start names, which is when a derivation by (valid) of 9.4 exists
-  pub valid : Decides ((d : ℕ) × StartNames bytes ends s t d × List·Memᴰ (0, d) pairs) (isMatched r)
-  pub derived : Decides (Valid bytes ends s t) (isMatched r)
+  pub written : Written bytes ends s t pairs room list (pairCount r) (isMatched r)
 
 -- the whole promise: where nothing is refused the list, and zeros throughout otherwise
 pub record ListsMatches (bytes ends s t : List ℕ) (room : ℕ) (list : List ℕ) (r : Matches) : Type 0 where

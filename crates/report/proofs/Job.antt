@@ -87,8 +87,8 @@ module _ {t : Tables} (l : Limited t) {bytes ends schema instance : List ℕ} (h
 pub pairs-fit : {bytes ends s t list : List ℕ} {r : Matches} {pairs : ℕ} → ListsMatches bytes ends s t listRoom list r → matchesVerdict r ≡ Passed → pairCount r ≡ pairs → pairs * 2 ≤ listRoom
 pairs-fit lists e f =
     let m = lists .matched e in
-    let a = m .fit in
-    let b = m .number in
+    let a = m .written .fit in
+    let b = m .written .counted in
     omega arith
 
 -- the list that is lent has so many words

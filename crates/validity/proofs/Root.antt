@@ -17,9 +17,10 @@ use Rattle.schema.proofs.Fields.{both-fields}
 use Rattle.schema.proofs.RowLaws.{in-table, right-size}
 use Rattle.schema.proofs.Sorts.{definition-kind}
 use Rattle.instance.specs.Nodes.{nodesOf}
-use Rattle.instance.specs.NodeRule.{NodesRight, bad-size, no-node}
+use Rattle.instance.specs.NodeRule.{NodesRight}
 use Rattle.instance.specs.Elements.{isElement}
 use Rattle.instance.proofs.Elements.{rooted}
+use Rattle.instance.proofs.Size.{some-node}
 use Rattle.rules.specs.Items.{Item, element, Attributes, none, Lookups}
 use Rattle.rules.specs.Rules.{Matches, NotMatchBy, choice-1, choice-2}
 use Rattle.rules.specs.Job.{lookups, Valid}
@@ -32,13 +33,6 @@ use Rattle.rules.proofs.RowPatterns.{row-makes, from-ref, from-choice, has-kind
 use Rattle.marks.specs.Given.{pairEntry}
 use Rattle.pairs.specs.Pairs.{TablesPass, PairsRight}
 use Rattle.validity.specs.Start.{TellsRoot, TellsValid}
-
-pub some-node : {strings : ℕ} {t : List ℕ} → NodesRight strings t → 0 < nodesOf t
-some-node {strings} {t} right = at (nodesOf t) refl
-  where
-    at : (n : ℕ) → nodesOf t ≡ n → 0 < n
-    at zero e = absurd (right 0 (bad-size (no-node e refl)))
-    at (suc n) e = omega arith
 
 pub some-row : {strings : ℕ} {s : List ℕ} → RowsRight strings s → 0 < rowsOf s
 some-row {strings} {s} right = at (rowsOf s) refl

@@ -2,7 +2,8 @@
 use Rattle.instance.specs.Nodes.{nodesOf, isChild}
 use denote.Ref.{now}
 use borrow.Author.Needs.{needs}
-use Rattle.contents.proofs.Lists.{size-kept, children-none, children-more, children-all, one-or-none}
+use Rattle.tables.proofs.Numbers.{one-or-none}
+use Rattle.contents.proofs.Lists.{size-kept, children-none, children-more, children-all}
 use Rattle.contents.specs.Contents.{Children}
 use lib.ListN.{length}
 use native.Mathlib.Omega.{arith}

@@ -7,7 +7,8 @@ use borrow.Author.Needs.{needs}
 use denote.Ref.{now}
 use Rattle.schema.specs.Rows.{rowsOf}
 use Rattle.definitions.specs.Definitions.{isDefinition, DefinitionsBelow}
-use Rattle.definitions.proofs.Collecting.{definitions-none, definitions-more, one-or-none}
+use Rattle.tables.proofs.Numbers.{one-or-none}
+use Rattle.definitions.proofs.Collecting.{definitions-none, definitions-more}
 use Rattle.definitions.proofs.definitions.Statement.{statement}
 use Rattle.definitions.proofs.definitions.Tie as tie
 use Rattle.definitions.proofs.definitions.Reads as reads
