@@ -45,7 +45,7 @@ loop-less : tie.Need-loop-less Inv-loop μ-loop
 loop-less c = search needs
 
 loop-again : tie.Need-loop-again Inv-loop μ-loop
-loop-again c = (omega arith, collects-more {b = eqb (c .before .kind .result) (c .before .before .before .before .before .before .before .before .args .kind)} (c .before .before .before .before .loop .inv .1) (rw (c .before .kind .ensures, c .before .before .word .ensures)) (c .add-if .ensures (omega arith)))
+loop-again c = (omega arith, collects-more {b = eqb (c .before .kind .result) (c .before .before .before .before .before .before .before .before .args .kind)} (c .before .before .before .before .loop .inv .1) (rw (c .before .kind .ensures, c .before .before .word .ensures)) (omega arith) (c .add-if .ensures))
 
 returns-2 : tie.Need-returns-2 Inv-loop μ-loop
 returns-2 c = let e : c .before .loop .k ≡ c .before .before .before .before .before .args .n = omega arith in (λ h. rw e at (c .before .loop .inv .1), λ h. absurd (omega arith))
