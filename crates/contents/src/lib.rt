@@ -1,6 +1,7 @@
 // What an element has: the number of its attributes, and its children as items.
 ghost use mathlib.Core.Path.{_≡_};
 ghost use mathlib.Core.Bool.{true, cond};
+ghost use mathlib.Core.Logic.{_⊎_};
 ghost use Prim.Native.Nat.{_+_, _≤_, _<_};
 ghost use lib.ListN.{set};
 ghost use Rattle.instance.specs.Nodes.{nodesOf, isChild, isAttribute};
@@ -32,9 +33,10 @@ fn child_count(instance: &[u32], e: u32, r: u32) -> u32
     0
 }
 
-// How many attributes element e has; more than an element may have are not counted.
+// How many attributes element e has; more than an element may have are not counted, nor those of a row that no instance may have.
 pub fn attributes(instance: &[u32], e: u32) -> u32
     ensures { λ n. ⌜ (e < maxNodes → Counted (now (instance .entry)) e n) ⌝ }
+    ensures otherwise { λ n. ⌜ (maxNodes ≤ e → n ≡ 0) ⌝ }
 {
     if instance::MAX_NODES <= e as usize {
         return 0;
@@ -49,9 +51,10 @@ pub fn attributes(instance: &[u32], e: u32) -> u32
     x
 }
 
-// The positions below n.
+// The positions below n; none where n is more than the attributes or children that an element may have.
 pub fn below(n: u32) -> u64
     ensures { λ w. ⌜ (n ≤ maxWidth → Collects (λ _. true) n w) ⌝ }
+    ensures otherwise { λ w. ⌜ (maxWidth < n → w ≡ 0) ⌝ }
 {
     if instance::MAX_WIDTH < n {
         return 0;
@@ -68,9 +71,10 @@ fn store(words: &mut [u32], k: u32, v: u32)
     }
 }
 
-// The rows of the children of element e, and how many there are. Past the first row whose parent comes before e there is none: the rows of e's descendants stand together.
+// The rows of the children of element e, and how many there are. Past the first row whose parent comes before e there is none: the rows of e's descendants stand together. Nothing is written where there are more nodes than there may be, or no row e.
 pub fn children(instance: &[u32], e: u32, rows: &mut [u32]) -> u32
     ensures { λ n. ⌜ (nodesOf (now (instance .entry)) ≤ maxNodes → e < nodesOf (now (instance .entry)) → Children (now (instance .entry)) e (now (rows .exit)) n (nodesOf (now (instance .entry)))) ⌝ }
+    ensures otherwise { λ n. ⌜ ((maxNodes < nodesOf (now (instance .entry))) ⊎ (nodesOf (now (instance .entry)) ≤ e) → (n ≡ 0) × (now (rows .exit) ≡ now (rows .entry))) ⌝ }
 {
     let nodes = instance.len() / 5;
     if instance::MAX_NODES < nodes {
@@ -92,9 +96,10 @@ pub fn children(instance: &[u32], e: u32, rows: &mut [u32]) -> u32
     n
 }
 
-// The positions of the rows of a kind, among the first n.
+// The positions of the rows of a kind, among the first n; none where n is more than the children that an element may have.
 pub fn of_kind(instance: &[u32], rows: &[u32], n: u32, kind: u32) -> u64
     ensures { λ w. ⌜ (n ≤ maxWidth → Collects (ofKind (now (instance .entry)) (now (rows .entry)) kind) n w) ⌝ }
+    ensures otherwise { λ w. ⌜ (maxWidth < n → w ≡ 0) ⌝ }
 {
     if instance::MAX_WIDTH < n {
         return 0;

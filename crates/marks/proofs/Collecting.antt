@@ -43,8 +43,8 @@ module _ (test : ℕ → Bool) where
       go (no f) (yes e) = rw (le-ltb k n (not-less f), eq-eqb k n e, lt-ltb k (n + 1) (omega arith)) (ap test (sym e))
       go (no f) (no g) = let l = not-less f in rw (le-ltb k n l, ne-eqb k n g, le-ltb k (n + 1) (omega arith))
 
-pub collects-more : {test : ℕ → Bool} {n w v : ℕ} {b : Bool} → Collects test n w → b ≡ test n → v ≡ cond b (bitOr w (2 ^ n)) w → Collects test (n + 1) v
-collects-more {test} {n} {w} {b = b} c e f = record { members = λ k. rw (f, added n w k b, c .members k, e) (below-or-at test n k) }
+pub collects-more : {test : ℕ → Bool} {n w v : ℕ} {b : Bool} → Collects test n w → b ≡ test n → n < 64 → v ≡ cond (ltb n 64 && b) (bitOr w (2 ^ n)) w → Collects test (n + 1) v
+collects-more {test} {n} {w} {b = b} c e h f = record { members = λ k. rw (f, lt-ltb n 64 h, added n w k b, c .members k, e) (below-or-at test n k) }
 
 pub collected : {test : ℕ → Bool} {n w k : ℕ} → Collects test n w → k < n → bit w k ≡ test k
 collected {n = n} {k = k} c h = rw (lt-ltb k n h) at (c .members k)

@@ -1,11 +1,11 @@
 // What each pattern of a schema does with the attributes and the children of one element, as sets.
 ghost use mathlib.Core.Path.{_≡_};
-ghost use mathlib.Core.Bool.{true, cond};
+ghost use mathlib.Core.Bool.{true, cond, _&&_};
 ghost use mathlib.Core.Logic.{_↔_};
 ghost use mathlib.Core.List.{List};
 ghost use Prim.Native.Nat.{ℕ, _+_, _*_, _^_, _≤_, _<_};
 ghost use lib.Bits.{bitOr};
-ghost use lib.Dec.{eqb};
+ghost use lib.Dec.{eqb, ltb};
 ghost use lib.ListN.{length, getD};
 ghost use Rattle.schema.specs.Rows.{rowsOf, kindOf, aOf, bOf};
 ghost use Rattle.instance.specs.Width.{maxWidth};
@@ -66,7 +66,7 @@ fn attribute_named(schema: &[u32], instance: &[u32], e: u32, c: u32, x: u32) -> 
 
 // A set with position k too, if so said; a position past the word is not added.
 pub fn add_if(set: u64, k: u32, yes: bool) -> u64
-    ensures { λ r. ⌜ (k < 64 → r ≡ cond yes (bitOr set (2 ^ k)) set) ⌝ }
+    ensures { λ r. ⌜ r ≡ cond (ltb k 64 && yes) (bitOr set (2 ^ k)) set ⌝ }
 {
     if 64 <= k {
         return set;

@@ -1,6 +1,7 @@
 use denote.Ref.{now}
 use Rattle.contents.proofs.Lists.{AttributesTo, counted-more, counted-last, counted-many}
 use borrow.Author.Needs.{needs}
+use mathlib.Core.Path.{refl}
 use native.Mathlib.Omega.{arith}
 use Prim.Native.Nat.{_-_, _≤_}
 use Rattle.contents.proofs.attributes.Statement.{statement}
@@ -16,7 +17,7 @@ abbrev μ-loop : tie.MeasureT-loop
 μ-loop instance e x₀ x = 64 - x
 
 returns : tie.Need-returns Inv-loop μ-loop
-returns c = λ h. absurd (omega arith)
+returns c = (λ h. absurd (omega arith), λ h. refl)
 
 loop-holds : tie.Need-loop-holds Inv-loop μ-loop
 loop-holds c = (omega arith, λ y h. absurd (omega arith))
@@ -31,7 +32,7 @@ is-attribute-requires : tie.Need-is-attribute-requires Inv-loop μ-loop
 is-attribute-requires c κs = search needs
 
 returns-2 : tie.Need-returns-2 Inv-loop μ-loop
-returns-2 c = λ h. counted-last _ _ _ (c .before .is-attribute .ensures) (c .if2 .taken) (c .before .before .before .loop .inv .1)
+returns-2 c = (λ h. counted-last _ _ _ (c .before .is-attribute .ensures) (c .if2 .taken) (c .before .before .before .loop .inv .1), λ h. absurd (omega arith))
 
 add-x : tie.Need-add-x Inv-loop μ-loop
 add-x c = search needs
@@ -43,7 +44,7 @@ loop-again : tie.Need-loop-again Inv-loop μ-loop
 loop-again c = (omega arith, counted-more (now (c .before .before .before .before .before .before .args .instance)) (c .before .before .before .before .before .before .args .e) _ (c .before .is-attribute .ensures) (c .if2 .left) (c .before .before .before .loop .inv .1))
 
 returns-3 : tie.Need-returns-3 Inv-loop μ-loop
-returns-3 c = λ h. counted-many _ _ _ (omega arith) (c .before .loop .inv .1)
+returns-3 c = (λ h. counted-many _ _ _ (omega arith) (c .before .loop .inv .1), λ h. absurd (omega arith))
 
 pub attributes-spec : {M : Type 1} → statement M
 attributes-spec =

@@ -7,6 +7,7 @@ use Rattle.contents.proofs.Lists.{size-kept, children-none, children-mo
 use Rattle.contents.specs.Contents.{Children}
 use lib.ListN.{length}
 use native.Mathlib.Omega.{arith}
+use mathlib.Core.Logic.{inl, inr}
 use mathlib.Core.Path.{_≡_, refl}
 use Prim.Native.Nat.{_-_, _≤_, _<_}
 use Rattle.contents.proofs.children.Statement.{statement}
@@ -19,10 +20,10 @@ abbrev μ-loop : tie.MeasureT-loop
 μ-loop instance e rows₀ nodes n₀ r₀ rows n r = nodes - r
 
 returns : tie.Need-returns Inv-loop μ-loop
-returns c = λ h. absurd (omega arith)
+returns c = (λ h. absurd (omega arith), λ h. (refl, refl))
 
 returns-2 : tie.Need-returns-2 Inv-loop μ-loop
-returns-2 c = λ h l. absurd (omega arith)
+returns-2 c = (λ h l. absurd (omega arith), λ h. (refl, refl))
 
 add-r : tie.Need-add-r Inv-loop μ-loop
 add-r c = search needs
@@ -40,7 +41,7 @@ same-length : tie.Need-same-length Inv-loop μ-loop
 same-length c = c .before .before .before .loop .inv .3
 
 returns-3 : tie.Need-returns-3 Inv-loop μ-loop
-returns-3 c = let i = c .before .before .before .loop .inv in let p = c .before .parent .ensures in λ h l. children-all (now (c .before .before .before .before .before .before .before .before .args .instance)) (c .before .before .before .before .before .before .before .before .args .e) (c .before .before .before .loop .r) (i .2) (omega arith) (omega arith) (i .4)
+returns-3 c = let i = c .before .before .before .loop .inv in let p = c .before .parent .ensures in (λ h l. children-all (now (c .before .before .before .before .before .before .before .before .args .instance)) (c .before .before .before .before .before .before .before .before .args .e) (c .before .before .before .loop .r) (i .2) (omega arith) (omega arith) (i .4), elim [ inl h ↦ absurd (omega arith) | inr h ↦ absurd (omega arith) ])
 
 store-requires : tie.Need-store-requires Inv-loop μ-loop
 store-requires c κs = search needs
@@ -64,7 +65,7 @@ same-length-2 : tie.Need-same-length-2 Inv-loop μ-loop
 same-length-2 c = c .before .loop .inv .3
 
 returns-4 : tie.Need-returns-4 Inv-loop μ-loop
-returns-4 c = λ h l. let i = c .before .loop .inv in let e : c .before .loop .r ≡ nodesOf (now (c .before .before .before .before .before .before .args .instance)) = omega (arith, i .1) in rw e at (i .4)
+returns-4 c = let i = c .before .loop .inv in let e : c .before .loop .r ≡ nodesOf (now (c .before .before .before .before .before .before .args .instance)) = omega (arith, i .1) in (λ h l. rw e at (i .4), elim [ inl h ↦ absurd (omega arith) | inr h ↦ absurd (omega arith) ])
 
 pub children-spec : {M : Type 1} → statement M
 children-spec =

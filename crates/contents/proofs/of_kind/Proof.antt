@@ -4,7 +4,7 @@ use Rattle.contents.specs.Contents.{ofKind}
 use Rattle.marks.proofs.Collecting.{collects-none, collects-more}
 use Rattle.marks.specs.Tests.{Collects}
 use native.Mathlib.Omega.{arith}
-use mathlib.Core.Path.{_≡_}
+use mathlib.Core.Path.{_≡_, refl}
 use Prim.Native.Nat.{_-_, _≤_}
 use Rattle.contents.proofs.of_kind.Statement.{statement}
 use Rattle.contents.proofs.of_kind.Tie as tie
@@ -21,7 +21,7 @@ abbrev μ-loop : tie.MeasureT-loop
 μ-loop instance rows n kind set₀ k₀ set k = n - k
 
 returns : tie.Need-returns Inv-loop μ-loop
-returns c = λ h. absurd (omega arith)
+returns c = (λ h. absurd (omega arith), λ h. refl)
 
 loop-holds : tie.Need-loop-holds Inv-loop μ-loop
 loop-holds c = (omega arith, collects-none _)
@@ -45,10 +45,10 @@ loop-less : tie.Need-loop-less Inv-loop μ-loop
 loop-less c = search needs
 
 loop-again : tie.Need-loop-again Inv-loop μ-loop
-loop-again c = (omega arith, collects-more {b = eqb (c .before .kind .result) (c .before .before .before .before .before .before .before .before .args .kind)} (c .before .before .before .before .loop .inv .1) (rw (c .before .kind .ensures, c .before .before .word .ensures)) (c .add-if .ensures (omega arith)))
+loop-again c = (omega arith, collects-more {b = eqb (c .before .kind .result) (c .before .before .before .before .before .before .before .before .args .kind)} (c .before .before .before .before .loop .inv .1) (rw (c .before .kind .ensures, c .before .before .word .ensures)) (omega arith) (c .add-if .ensures))
 
 returns-2 : tie.Need-returns-2 Inv-loop μ-loop
-returns-2 c = λ h. let e : c .before .loop .k ≡ c .before .before .before .before .before .args .n = omega arith in rw e at (c .before .loop .inv .1)
+returns-2 c = let e : c .before .loop .k ≡ c .before .before .before .before .before .args .n = omega arith in (λ h. rw e at (c .before .loop .inv .1), λ h. absurd (omega arith))
 
 pub of-kind-spec : {M : Type 1} → statement M
 of-kind-spec =

@@ -45,7 +45,7 @@ loop-less : tie.Need-loop-less Inv-loop μ-loop
 loop-less c = omega arith
 
 loop-again : tie.Need-loop-again Inv-loop μ-loop
-loop-again c = (collects-more (c .before .before .before .before .before .loop .inv .0) (rw (c .before .before .before .word .ensures) at (ap₂ _&&_ (ap not (c .before .before .has .ensures)) (c .before .row-named .ensures))) (c .add-if .ensures (omega arith)), omega arith)
+loop-again c = (collects-more (c .before .before .before .before .before .loop .inv .0) (rw (c .before .before .before .word .ensures) at (ap₂ _&&_ (ap not (c .before .before .has .ensures)) (c .before .row-named .ensures))) (omega arith) (c .add-if .ensures), omega arith)
 
 returns : tie.Need-returns Inv-loop μ-loop
 returns c = let i = c .before .loop .inv in let e : c .before .loop .k ≡ length (now (c .before .before .before .before .before .args .items)) = omega arith in rw e at (i .0)

@@ -34,7 +34,7 @@ returns c = λ bytes ends f i.
     let h = q .10 in
     let room = q .8 in
     let size = c .before .before .before .before .before .before .before .before .before .before .items .given in
-    let known = know f h i (c .before .before .before .before .before .before .before .before .before .before .before .before .before .before .attributes .ensures (q .2)) (c .before .before .before .before .before .before .before .before .before .before .before .before .before .below .ensures) (omega arith) (c .before .before .before .before .before .before .before .before .before .before .before .children .ensures (q .9) h) (c .before .before .before .to-items .ensures) (c .before .before .before .before .before .before .before .of-kind .ensures) (c .before .before .before .before .before .of-kind2 .ensures) in
+    let known = know f h i (c .before .before .before .before .before .before .before .before .before .before .before .before .before .before .attributes .ensures .0 (q .2)) (c .before .before .before .before .before .before .before .before .before .before .before .before .before .below .ensures .0) (omega arith) (c .before .before .before .before .before .before .before .before .before .before .before .children .ensures .0 (q .9) h) (c .before .before .before .to-items .ensures) (c .before .before .before .before .before .before .before .of-kind .ensures .0) (c .before .before .before .before .before .of-kind2 .ensures .0) in
     let few = known .contents .few in
     absurd (omega arith)
 
@@ -82,7 +82,7 @@ returns-2 c = λ bytes ends f i.
     let h = q .10 in
     let room = q .8 in
     let size = c .before .before .before .before .before .before .before .before .before .before .before .before .before .before .before .before .before .before .before .before .before .before .before .before .before .before .before .before .before .before .before .before .before .before .before .items .given in
-    let known = know f h i (c .before .before .before .before .before .before .before .before .before .before .before .before .before .before .before .before .before .before .before .before .before .before .before .before .before .before .before .before .before .before .before .before .before .before .before .before .before .before .before .attributes .ensures (q .2)) (c .before .before .before .before .before .before .before .before .before .before .before .before .before .before .before .before .before .before .before .before .before .before .before .before .before .before .before .before .before .before .before .before .before .before .before .before .before .before .below .ensures) (omega arith) (c .before .before .before .before .before .before .before .before .before .before .before .before .before .before .before .before .before .before .before .before .before .before .before .before .before .before .before .before .before .before .before .before .before .before .before .before .children .ensures (q .9) h) (c .before .before .before .before .before .before .before .before .before .before .before .before .before .before .before .before .before .before .before .before .before .before .before .before .before .before .before .before .to-items .ensures) (c .before .before .before .before .before .before .before .before .before .before .before .before .before .before .before .before .before .before .before .before .before .before .before .before .before .before .before .before .before .before .before .before .of-kind .ensures) (c .before .before .before .before .before .before .before .before .before .before .before .before .before .before .before .before .before .before .before .before .before .before .before .before .before .before .before .before .before .before .of-kind2 .ensures) in
+    let known = know f h i (c .before .before .before .before .before .before .before .before .before .before .before .before .before .before .before .before .before .before .before .before .before .before .before .before .before .before .before .before .before .before .before .before .before .before .before .before .before .before .before .attributes .ensures .0 (q .2)) (c .before .before .before .before .before .before .before .before .before .before .before .before .before .before .before .before .before .before .before .before .before .before .before .before .before .before .before .before .before .before .before .before .before .before .before .before .before .before .below .ensures .0) (omega arith) (c .before .before .before .before .before .before .before .before .before .before .before .before .before .before .before .before .before .before .before .before .before .before .before .before .before .before .before .before .before .before .before .before .before .before .before .before .children .ensures .0 (q .9) h) (c .before .before .before .before .before .before .before .before .before .before .before .before .before .before .before .before .before .before .before .before .before .before .before .before .before .before .before .before .to-items .ensures) (c .before .before .before .before .before .before .before .before .before .before .before .before .before .before .before .before .before .before .before .before .before .before .before .before .before .before .before .before .before .before .before .before .of-kind .ensures .0) (c .before .before .before .before .before .before .before .before .before .before .before .before .before .before .before .before .before .before .before .before .before .before .before .before .before .before .before .before .before .before .of-kind2 .ensures .0) in
     let ready = c .before .before .before .before .before .before .before .before .before .before .before .before .before .before .before .before .before .before .before .before .before .before .before .content-of .ensures .ready bytes ends _ _ _ _ _ _ _ _ known in
     let content = c .before .before .before .before .before .before .before .before .before .before .before .before .before .before .before .before .before .before .before .first-items .ensures in
     c .before .before .before .before .before .before .before .before .before .before .before .before .pair-row .ensures bytes ends (rw content ready) i
