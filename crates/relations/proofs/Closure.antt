@@ -7,18 +7,18 @@ use Prim.Native.Nat.{ℕ, _+_, _≤_, _<_}
 use native.Mathlib.Nat.{eq-or-lt-of-le}
 use native.Mathlib.Omega.{arith}
 use lib.Bits.{bitOr}
-use lib.ListN.{length, getD, set, length-set}
+use lib.ListN.{length, getD, set}
 use Rattle.sets.specs.Bits.{positions, bit}
 use Rattle.relations.specs.Relations.{Plus, once, more}
-use Rattle.relations.specs.Words.{Holds, Image, front, Up}
+use Rattle.relations.specs.Words.{Holds, Image, front, Rest, Up}
 use Rattle.sets.proofs.Members.{or-has, has-or-l, has-or-r}
-use Rattle.relations.proofs.Words.{front-below, front-at, Row, Written, write-none, write-more}
+use Rattle.relations.proofs.Words.{front-below, front-at, rest-same, rest-set, Row, Written, write-none, write-more}
 
 pub plus-low : (m : ℕ) (w : List ℕ) (i j : ℕ) → Plus (Holds (front m w)) i j → i < m
 plus-low m w i j (once e) = front-below m w i j e
 plus-low m w i j (more {h = h} e p) = front-below m w i h e
 
-module _ {m : ℕ} {w₀ w : List ℕ} {i s v : ℕ} (k : ℕ) (g : Written m (Plus (Holds (front m w₀))) w₀ w i) (up : Up (Holds (front m w₀))) (e : i ≡ k + 1) (x : s ≡ getD w k 0) (im : Image s (front m w) v) where
+module _ {m : ℕ} {w₀ w : List ℕ} {i s v : ℕ} (k : ℕ) (g : Written m m (Plus (Holds (front m w₀))) w₀ w i) (up : Up (Holds (front m w₀))) (e : i ≡ k + 1) (x : s ≡ getD w k 0) (im : Image s (front m w) v) where
   low : k < m
   low = omega (arith, g .within)
 
@@ -53,18 +53,22 @@ module _ {m : ℕ} {w₀ w : List ℕ} {i s v : ℕ} (k : ℕ) (g : Written m (P
     complete = λ j p. reached k j refl p;
   }
 
--- the words from i on are closed, if the relation goes up
+-- of the first m words those from i on are closed, if the relation goes up; the words from m on are as they were
 pub record Closing (m : ℕ) (w₀ w : List ℕ) (i : ℕ) : Type 0 where
-  pub size : length w ≡ length w₀
+  pub few : m ≤ positions
+  pub room : m ≤ length w₀
   pub within : i ≤ m
-  pub closed : Up (Holds (front m w₀)) → Written m (Plus (Holds (front m w₀))) w₀ w i
+  pub rest : Rest m m w₀ w
+  pub closed : Up (Holds (front m w₀)) → Written m m (Plus (Holds (front m w₀))) w₀ w i
 
 pub close-none : {m : ℕ} {w : List ℕ} → m ≤ positions → m ≤ length w → Closing m w w m
-close-none f l = record { size = refl; within = omega arith; closed = λ up. write-none f l }
+close-none f l = record { few = f; room = l; within = omega arith; rest = rest-same; closed = λ up. write-none f (omega arith) l }
 
 pub close-more : {m : ℕ} {w₀ w : List ℕ} {i k s v : ℕ} → Closing m w₀ w i → i ≡ k + 1 → s ≡ getD w k 0 → Image s (front m w) v → Closing m w₀ (set w k (bitOr s v)) k
-close-more {w = w} {k = k} {s = s} {v = v} g e x im = record {
-  size = length-set w k (bitOr s v) ∙ g .size;
+close-more {k = k} {s = s} {v = v} g e x im = record {
+  few = g .few;
+  room = g .room;
   within = omega (arith, g .within);
+  rest = rest-set (bitOr s v) (g .rest) (g .few) (g .room) (omega (arith, g .within));
   closed = λ up. write-more (g .closed up) e (plus-row k (g .closed up) up e x im);
 }

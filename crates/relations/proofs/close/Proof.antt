@@ -4,7 +4,7 @@ use borrow.Author.Needs.{needs}
 use mathlib.Core.Path.{refl, sym}
 use lib.Seq.{length-take-le}
 use Rattle.relations.proofs.Closure.{plus-low, Closing, close-none, close-more}
-use Rattle.relations.proofs.Words.{written}
+use Rattle.relations.proofs.Words.{rest-same, written}
 use Rattle.relations.proofs.close.Statement.{statement}
 use Rattle.relations.proofs.close.Tie as tie
 
@@ -15,10 +15,10 @@ abbrev μ-loop : tie.MeasureT-loop
 μ-loop m w₀ end i₀ w i = i
 
 returns : tie.Need-returns Inv-loop μ-loop
-returns c f l = absurd (omega arith)
+returns c = (λ f l. absurd (omega arith), rest-same)
 
 returns-2 : tie.Need-returns-2 Inv-loop μ-loop
-returns-2 c f l = absurd (omega arith)
+returns-2 c = (λ f l. absurd (omega arith), rest-same)
 
 loop-holds : tie.Need-loop-holds Inv-loop μ-loop
 loop-holds c = close-none (omega arith) (omega arith)
@@ -54,10 +54,10 @@ loop-again : tie.Need-loop-again Inv-loop μ-loop
 loop-again c = close-more (c .before .before .before .before .loop .inv) (omega arith) refl (c .image .ensures)
 
 same-length : tie.Need-same-length Inv-loop μ-loop
-same-length c = c .before .loop .inv .size
+same-length c = c .before .loop .inv .rest .size
 
 returns-3 : tie.Need-returns-3 Inv-loop μ-loop
-returns-3 c f l up = written (c .before .loop .inv .closed up) (c .loop-test .left) (plus-low _ (c .before .before .before .before .before .args .w .now))
+returns-3 c = (λ f l up. written (c .before .loop .inv .closed up) (c .loop-test .left) (plus-low _ (c .before .before .before .before .before .args .w .now)), c .before .loop .inv .rest)
 
 pub close-spec : {M : Type 1} → statement M
 close-spec =
