@@ -1,13 +1,13 @@
 -- Words that hold a relation: they are unique; and the loops that write the first m words, from the last to the first.
 use mathlib.Core.Path.{_≡_, refl, sym, subst, ap, _∙_}
 use mathlib.Core.Bool.{Bool, true, false}
-use mathlib.Core.List.{List}
+use mathlib.Core.List.{List, _++_}
 use mathlib.Core.Logic.{⊎-elim, _↔_}
 use Prim.Native.Nat.{ℕ, _+_, _-_, _≤_, _<_}
 use native.Mathlib.Nat.{eq-or-lt-of-le}
 use native.Mathlib.Decide.{decLt}
 use native.Mathlib.Omega.{arith}
-use lib.ListN.{length, getD, set, drop, length-set, length-take, List·getD-eq-default}
+use lib.ListN.{length, getD, set, take, drop, length-set, length-take, take-append-drop, List·getD-eq-default}
 use lib.Seq.{getD-set-same, getD-set-other, getD-take, getD-drop, drop-drop, drop-set-lt, ext-getD}
 use Rattle.tables.proofs.Numbers.{not-less}
 use Rattle.sets.specs.Bits.{positions, bit}
@@ -68,6 +68,16 @@ rest-set {m} {w = w} {i = i} v g f l h = record {
   many = λ n. absurd (omega arith);
   short = λ n. absurd (omega arith);
 }
+
+-- the relation of the first m words and the rest fix every word
+pub rest-unique : {m need : ℕ} {w a b : List ℕ} {R : Relation} → Is (front m a) R → Is (front m b) R → Rest m need w a → Rest m need w b → a ≡ b
+rest-unique {m} {a = a} {b = b} x y p q =
+    let n : length a ≡ length b = p .size ∙ sym (q .size) in
+    let l : length (take m a) ≡ length (take m b) = omega (arith, n, length-take m a, length-take m b) in
+    sym (take-append-drop m a)
+    ∙ ap (λ (v : List ℕ). v ++ drop m a) (is-unique x y l)
+    ∙ ap (λ (v : List ℕ). take m b ++ v) (p .past ∙ sym (q .past))
+    ∙ take-append-drop m b
 
 -- ---- the loops
 
