@@ -1,18 +1,18 @@
 -- Words that hold a relation: they are unique; and the loops that write the first m words, from the last to the first.
 use mathlib.Core.Path.{_≡_, refl, sym, subst, ap, _∙_}
 use mathlib.Core.Bool.{Bool, true, false}
-use mathlib.Core.List.{List}
+use mathlib.Core.List.{List, _++_}
 use mathlib.Core.Logic.{⊎-elim, _↔_}
-use Prim.Native.Nat.{ℕ, _+_, _≤_, _<_}
+use Prim.Native.Nat.{ℕ, _+_, _-_, _≤_, _<_}
 use native.Mathlib.Nat.{eq-or-lt-of-le}
 use native.Mathlib.Decide.{decLt}
 use native.Mathlib.Omega.{arith}
-use lib.ListN.{length, getD, set, drop, length-set, length-take, List·getD-eq-default}
-use lib.Seq.{getD-set-same, getD-set-other, getD-take, getD-drop, drop-set-lt, ext-getD}
+use lib.ListN.{length, getD, set, take, drop, length-set, length-take, take-append-drop, List·getD-eq-default}
+use lib.Seq.{getD-set-same, getD-set-other, getD-take, getD-drop, drop-drop, drop-set-lt, ext-getD}
 use Rattle.tables.proofs.Numbers.{not-less}
 use Rattle.sets.specs.Bits.{positions, bit}
 use Rattle.relations.specs.Relations.{Relation}
-use Rattle.relations.specs.Words.{Holds, Is, front, next, Up}
+use Rattle.relations.specs.Words.{Holds, Is, front, next, Rest, Up}
 use Rattle.sets.proofs.Bits.{bit-ext}
 use Rattle.sets.proofs.Members.{none-has}
 
@@ -54,6 +54,31 @@ module _ (m : ℕ) (w : List ℕ) (i : ℕ) where
   pub next-at : i < m → getD (next m w) i 0 ≡ getD w (positions + i) 0
   next-at h = getD-take m (drop positions w) i 0 h ∙ getD-drop positions w i 0
 
+-- ---- the words from m on
+
+-- a call that writes nothing
+pub rest-same : {m need : ℕ} {w : List ℕ} → Rest m need w w
+rest-same = record { size = refl; past = refl; many = λ f. refl; short = λ l. refl }
+
+-- a store below m keeps it, where m is at most 64 and the words are enough
+pub rest-set : {m need : ℕ} {w₀ w : List ℕ} {i : ℕ} (v : ℕ) → Rest m need w₀ w → m ≤ positions → need ≤ length w₀ → i < m → Rest m need w₀ (set w i v)
+rest-set {m} {w = w} {i = i} v g f l h = record {
+  size = length-set w i v ∙ g .size;
+  past = drop-set-lt m w i v h ∙ g .past;
+  many = λ n. absurd (omega arith);
+  short = λ n. absurd (omega arith);
+}
+
+-- the relation of the first m words and the rest fix every word
+pub rest-unique : {m need : ℕ} {w a b : List ℕ} {R : Relation} → Is (front m a) R → Is (front m b) R → Rest m need w a → Rest m need w b → a ≡ b
+rest-unique {m} {a = a} {b = b} x y p q =
+    let n : length a ≡ length b = p .size ∙ sym (q .size) in
+    let l : length (take m a) ≡ length (take m b) = omega (arith, n, length-take m a, length-take m b) in
+    sym (take-append-drop m a)
+    ∙ ap (λ (v : List ℕ). v ++ drop m a) (is-unique x y l)
+    ∙ ap (λ (v : List ℕ). take m b ++ v) (p .past ∙ sym (q .past))
+    ∙ take-append-drop m b
+
 -- ---- the loops
 
 -- v is the word of R at i
@@ -61,42 +86,48 @@ pub record Row (R : Relation) (i v : ℕ) : Type 0 where
   pub sound : (j : ℕ) → bit v j ≡ true → R i j
   pub complete : (j : ℕ) → R i j → bit v j ≡ true
 
--- of the first m words those from i on are those of R, the others are as they were, and so is the next relation
-pub record Written (m : ℕ) (R : Relation) (w₀ w : List ℕ) (i : ℕ) : Type 0 where
-  pub size : length w ≡ length w₀
-  pub room : m ≤ length w₀
+-- of the first m words those from i on are those of R, the others are as they were, and so are the words from m on
+pub record Written (m need : ℕ) (R : Relation) (w₀ w : List ℕ) (i : ℕ) : Type 0 where
   pub few : m ≤ positions
+  pub wide : m ≤ need
+  pub room : need ≤ length w₀
   pub within : i ≤ m
   pub before : (k : ℕ) → k < i → getD w k 0 ≡ getD w₀ k 0
-  pub after : drop positions w ≡ drop positions w₀
+  pub rest : Rest m need w₀ w
   pub rows : (k : ℕ) → i ≤ k → k < m → Row R k (getD w k 0)
 
-pub write-none : {m : ℕ} {R : Relation} {w : List ℕ} → m ≤ positions → m ≤ length w → Written m R w w m
-write-none f l = record { size = refl; room = l; few = f; within = omega arith; before = λ k h. refl; after = refl; rows = λ k h n. absurd (omega arith) }
+pub write-none : {m need : ℕ} {R : Relation} {w : List ℕ} → m ≤ positions → m ≤ need → need ≤ length w → Written m need R w w m
+write-none f d l = record { few = f; wide = d; room = l; within = omega arith; before = λ k h. refl; rest = rest-same; rows = λ k h n. absurd (omega arith) }
 
-pub write-more : {m : ℕ} {R : Relation} {w₀ w : List ℕ} {i k v : ℕ} → Written m R w₀ w i → i ≡ k + 1 → Row R k v → Written m R w₀ (set w k v) k
-write-more {m} {R} {w₀} {w} {i} {k} {v} g e row = record {
-  size = length-set w k v ∙ g .size;
-  room = g .room;
+pub write-more : {m need : ℕ} {R : Relation} {w₀ w : List ℕ} {i k v : ℕ} → Written m need R w₀ w i → i ≡ k + 1 → Row R k v → Written m need R w₀ (set w k v) k
+write-more {m} {need} {R} {w₀} {w} {i} {k} {v} g e row = record {
   few = g .few;
+  wide = g .wide;
+  room = g .room;
   within = omega (arith, g .within);
   before = λ n h. getD-set-other w k n v 0 (λ q. omega arith) ∙ g .before n (omega arith);
-  after = drop-set-lt positions w k v (omega (arith, g .within, g .few)) ∙ g .after;
+  rest = rest-set v (g .rest) (g .few) (g .room) (omega (arith, g .within));
   rows = λ n h l. ⊎-elim (here n) (there n l) (eq-or-lt-of-le h);
 }
   where
     here : (n : ℕ) → k ≡ n → Row R n (getD (set w k v) n 0)
-    here n q = subst (λ (x : ℕ). Row R x (getD (set w k v) x 0)) q (subst (Row R k) (sym (getD-set-same w k v 0 (omega (arith, g .size, g .room, g .within, e)))) row)
+    here n q = subst (λ (x : ℕ). Row R x (getD (set w k v) x 0)) q (subst (Row R k) (sym (getD-set-same w k v 0 (omega (arith, g .rest .size, g .wide, g .room, g .within, e)))) row)
 
     there : (n : ℕ) → n < m → k < n → Row R n (getD (set w k v) n 0)
     there n l h = subst (Row R n) (sym (getD-set-other w k n v 0 (λ q. omega (arith, q, h)))) (g .rows n (omega (arith, e, h)) l)
 
--- a word of the next relation is as it was
-pub kept : {m : ℕ} {R : Relation} {w₀ w : List ℕ} {i : ℕ} (g : Written m R w₀ w i) (k : ℕ) → getD w (positions + k) 0 ≡ getD w₀ (positions + k) 0
-kept {w₀ = w₀} {w = w} g k = sym (getD-drop positions w k 0) ∙ ap (λ (l : List ℕ). getD l k 0) (g .after) ∙ getD-drop positions w₀ k 0
+-- the next relation is as it was, and so is a word of it
+pub next-kept : {m need : ℕ} {R : Relation} {w₀ w : List ℕ} {i : ℕ} → Written m need R w₀ w i → drop positions w ≡ drop positions w₀
+next-kept {m} {w₀ = w₀} {w = w} g = sym (past w) ∙ ap (drop (positions - m)) (g .rest .past) ∙ past w₀
+  where
+    past : (l : List ℕ) → drop (positions - m) (drop m l) ≡ drop positions l
+    past l = let n : m + (positions - m) ≡ positions = omega (arith, g .few) in drop-drop (positions - m) m l ∙ ap (λ (n : ℕ). drop n l) n
 
-pub written : {m : ℕ} {R : Relation} {w₀ w : List ℕ} {i : ℕ} → Written m R w₀ w i → i ≤ 0 → ((k j : ℕ) → R k j → k < m) → Is (front m w) R
-written {m} {R} {w₀} {w} {i} g z low = record {
+pub kept : {m need : ℕ} {R : Relation} {w₀ w : List ℕ} {i : ℕ} (g : Written m need R w₀ w i) (k : ℕ) → getD w (positions + k) 0 ≡ getD w₀ (positions + k) 0
+kept {w₀ = w₀} {w = w} g k = sym (getD-drop positions w k 0) ∙ ap (λ (l : List ℕ). getD l k 0) (next-kept g) ∙ getD-drop positions w₀ k 0
+
+pub written : {m need : ℕ} {R : Relation} {w₀ w : List ℕ} {i : ℕ} → Written m need R w₀ w i → i ≤ 0 → ((k j : ℕ) → R k j → k < m) → Is (front m w) R
+written {m} {need} {R} {w₀} {w} {i} g z low = record {
   sound = λ k j e. let l = front-below m w k j e in g .rows k (omega arith) l .sound j (sym (ap (λ (x : ℕ). bit x j) (front-at m w k l)) ∙ e);
   complete = λ k j r. let l = low k j r in ap (λ (x : ℕ). bit x j) (front-at m w k l) ∙ g .rows k (omega arith) l .complete j r;
 }

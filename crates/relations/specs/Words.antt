@@ -3,7 +3,7 @@ use mathlib.Core.Path.{_≡_}
 use mathlib.Core.Bool.{true, false}
 use mathlib.Core.List.{List}
 use Prim.Native.Nat.{ℕ, _≤_, _<_}
-use lib.ListN.{getD, take, drop}
+use lib.ListN.{length, getD, take, drop}
 use Rattle.sets.specs.Bits.{positions, bit}
 use Rattle.relations.specs.Relations.{Relation}
 
@@ -27,6 +27,13 @@ front m w = take m w
 
 abbrev pub next : ℕ → List ℕ → List ℕ
 next m w = take m (drop positions w)
+
+-- the words from m on are as they were; all are where m is above 64 or they were fewer than need
+pub record Rest (m need : ℕ) (before after : List ℕ) : Type 0 where
+  pub size : length after ≡ length before
+  pub past : drop m after ≡ drop m before
+  pub many : positions < m → after ≡ before
+  pub short : length before < need → after ≡ before
 
 -- no position is related to one before it
 abbrev pub Up : Relation → Type 0

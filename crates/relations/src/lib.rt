@@ -1,12 +1,12 @@
-// Relations on m positions as m words; a second relation starts at word 64. Where m is above 64 or the words are too few, a function writes nothing.
+// Relations on m positions as m words; a second relation starts at word 64. A function writes the first m words only, and nothing where m is above 64 or the words are too few.
 ghost use mathlib.Core.Path.{_≡_};
 ghost use mathlib.Core.Bool.{cond};
 ghost use Prim.Native.Nat.{_+_, _^_, _<_, _≤_};
 ghost use lib.Bits.{bitOr};
 ghost use lib.ListN.{length};
 ghost use Rattle.sets.specs.Bits.{bit};
-ghost use Rattle.relations.specs.Relations.{Or, And, Then, Plus};
-ghost use Rattle.relations.specs.Words.{Holds, Is, Image, front, next, Up, Empty, Gap, Single};
+ghost use Rattle.relations.specs.Relations.{Or, And, Then, Plus, Sweep};
+ghost use Rattle.relations.specs.Words.{Holds, Is, Image, front, next, Rest, Up, Empty, Gap, Single};
 
 // The union of the words of b at the members of s.
 pub fn image(s: u64, b: &[u64]) -> u64
@@ -24,6 +24,7 @@ pub fn image(s: u64, b: &[u64]) -> u64
 // The empty relation.
 pub fn clear(m: u32, w: &mut [u64])
     ensures { λ _. ⌜ (m ≤ 64 → m ≤ length (now (w .entry)) → Is (front m (now (w .exit))) Empty) ⌝ }
+    ensures rest { λ _. ⌜ Rest m m (now (w .entry)) (now (w .exit)) ⌝ }
 {
     if m > 64 {
         return;
@@ -52,6 +53,7 @@ fn gap_word(stop: u64, i: u32, after: u64) -> u64
 // The pairs i, j with no position of stop in [i, j).
 pub fn gaps(m: u32, stop: u64, w: &mut [u64])
     ensures { λ _. ⌜ (m ≤ 64 → m ≤ length (now (w .entry)) → Is (front m (now (w .exit))) (Gap m stop)) ⌝ }
+    ensures rest { λ _. ⌜ Rest m m (now (w .entry)) (now (w .exit)) ⌝ }
 {
     if m > 64 {
         return;
@@ -84,6 +86,7 @@ fn single_word(all: u64, marked: u64, i: u32, gap: u64, single: u64) -> u64
 // The pairs i, j with exactly one position of all in [i, j), a marked one.
 pub fn singles(m: u32, all: u64, marked: u64, w: &mut [u64])
     ensures { λ _. ⌜ (m ≤ 64 → m ≤ length (now (w .entry)) → Is (front m (now (w .exit))) (Single m all marked)) ⌝ }
+    ensures rest { λ _. ⌜ Rest m m (now (w .entry)) (now (w .exit)) ⌝ }
 {
     if m > 64 {
         return;
@@ -105,6 +108,7 @@ pub fn singles(m: u32, all: u64, marked: u64, w: &mut [u64])
 // The first relation or the next.
 pub fn union(m: u32, w: &mut [u64])
     ensures { λ _. ⌜ (m ≤ 64 → 64 + m ≤ length (now (w .entry)) → Is (front m (now (w .exit))) (Or (Holds (front m (now (w .entry)))) (Holds (next m (now (w .entry)))))) ⌝ }
+    ensures rest { λ _. ⌜ Rest m (64 + m) (now (w .entry)) (now (w .exit)) ⌝ }
 {
     if m > 64 {
         return;
@@ -122,6 +126,7 @@ pub fn union(m: u32, w: &mut [u64])
 // The first relation and the next, of the same pairs.
 pub fn meet(m: u32, w: &mut [u64])
     ensures { λ _. ⌜ (m ≤ 64 → 64 + m ≤ length (now (w .entry)) → Is (front m (now (w .exit))) (And (Holds (front m (now (w .entry)))) (Holds (next m (now (w .entry)))))) ⌝ }
+    ensures rest { λ _. ⌜ Rest m (64 + m) (now (w .entry)) (now (w .exit)) ⌝ }
 {
     if m > 64 {
         return;
@@ -139,6 +144,7 @@ pub fn meet(m: u32, w: &mut [u64])
 // The first relation, then the next.
 pub fn compose(m: u32, w: &mut [u64])
     ensures { λ _. ⌜ (m ≤ 64 → 64 + m ≤ length (now (w .entry)) → Is (front m (now (w .exit))) (Then (Holds (front m (now (w .entry)))) (Holds (next m (now (w .entry)))))) ⌝ }
+    ensures rest { λ _. ⌜ Rest m (64 + m) (now (w .entry)) (now (w .exit)) ⌝ }
 {
     if m > 64 {
         return;
@@ -158,6 +164,8 @@ pub fn compose(m: u32, w: &mut [u64])
 // One or more steps of a relation that goes up: the words after i are closed before word i is.
 pub fn close(m: u32, w: &mut [u64])
     ensures { λ _. ⌜ (m ≤ 64 → m ≤ length (now (w .entry)) → Up (Holds (front m (now (w .entry)))) → Is (front m (now (w .exit))) (Plus (Holds (front m (now (w .entry)))))) ⌝ }
+    ensures rest { λ _. ⌜ Rest m m (now (w .entry)) (now (w .exit)) ⌝ }
+    ensures sweep { λ _. ⌜ (m ≤ 64 → m ≤ length (now (w .entry)) → Is (front m (now (w .exit))) (Sweep (Holds (front m (now (w .entry)))))) ⌝ }
 {
     if m > 64 {
         return;

@@ -119,7 +119,7 @@ module _ (t : ℕ) where
   choice-same-length c = omega arith
 
   choice-returns : choice-lts.Need-returns choice-calls choice-at choice.Post
-  choice-returns c = answers-choice _ _ (c .before .before .before .before .before .before .before .before .before .before .before .before .before .before .pre .1 .2) (omega arith) (omega arith) (c .before .before .before .before .before .before .operands .ensures) (c .before .before .union .ensures)
+  choice-returns c = answers-choice _ _ (c .before .before .before .before .before .before .before .before .before .before .before .before .before .before .pre .1 .2) (omega arith) (omega arith) (c .before .before .before .before .before .before .operands .ensures) (c .before .before .union .ensures .0)
 
   group-field-a-requires : group-lts.Need-field-a-requires group-calls group-at group.Post
   group-field-a-requires c κs = tt
@@ -137,7 +137,7 @@ module _ (t : ℕ) where
   group-same-length c = omega arith
 
   group-returns : group-lts.Need-returns group-calls group-at group.Post
-  group-returns c = answers-group _ _ (c .before .before .before .before .before .before .before .before .before .before .before .before .before .before .before .before .fits .a .fits) (c .before .before .before .before .before .before .before .before .word .ok) (c .before .before .before .before .before .before .before .before .before .field-a .ensures) (c .before .before .before .before .before .before .before .before .word .ensures) (c .before .before .before .before .before .before .before .before .before .before .before .before .before .before .before .before .pre .1 .2) (omega arith) (omega arith) (c .before .before .before .before .before .before .operands .ensures) (c .before .before .compose .ensures)
+  group-returns c = answers-group _ _ (c .before .before .before .before .before .before .before .before .before .before .before .before .before .before .before .before .fits .a .fits) (c .before .before .before .before .before .before .before .before .word .ok) (c .before .before .before .before .before .before .before .before .before .field-a .ensures) (c .before .before .before .before .before .before .before .before .word .ensures) (c .before .before .before .before .before .before .before .before .before .before .before .before .before .before .before .before .pre .1 .2) (omega arith) (omega arith) (c .before .before .before .before .before .before .operands .ensures) (c .before .before .compose .ensures .0)
 
   interleave-field-a-requires : interleave-lts.Need-field-a-requires interleave-calls interleave-at interleave.Post
   interleave-field-a-requires c κs = tt
@@ -158,7 +158,7 @@ module _ (t : ℕ) where
   interleave-same-length c = omega arith
 
   interleave-returns : interleave-lts.Need-returns interleave-calls interleave-at interleave.Post
-  interleave-returns c = answers-interleave _ _ (c .before .before .before .before .before .before .before .before .before .before .before .before .before .before .before .before .before .fits .a .fits) (c .before .before .before .before .before .before .before .before .before .word .ok) (c .before .before .before .before .before .before .before .before .before .before .field-a .ensures) (c .before .before .before .before .before .before .before .before .before .word .ensures) (c .before .before .before .before .before .before .before .before .before .before .before .before .before .before .before .before .before .fits .k .fits) (c .before .before .before .before .before .before .before .before .word2 .ok) (c .before .before .before .before .before .before .before .before .word2 .ensures) (c .before .before .before .before .before .before .before .before .before .before .before .before .before .before .before .before .before .pre .1 .2) (omega arith) (omega arith) (c .before .before .before .before .before .before .operands .ensures) (c .before .before .meet .ensures)
+  interleave-returns c = answers-interleave _ _ (c .before .before .before .before .before .before .before .before .before .before .before .before .before .before .before .before .before .fits .a .fits) (c .before .before .before .before .before .before .before .before .before .word .ok) (c .before .before .before .before .before .before .before .before .before .before .field-a .ensures) (c .before .before .before .before .before .before .before .before .before .word .ensures) (c .before .before .before .before .before .before .before .before .before .before .before .before .before .before .before .before .before .fits .k .fits) (c .before .before .before .before .before .before .before .before .word2 .ok) (c .before .before .before .before .before .before .before .before .word2 .ensures) (c .before .before .before .before .before .before .before .before .before .before .before .before .before .before .before .before .before .pre .1 .2) (omega arith) (omega arith) (c .before .before .before .before .before .before .operands .ensures) (c .before .before .meet .ensures .0)
 
   one-or-more-field-a-requires : one-or-more-lts.Need-field-a-requires one-or-more-calls one-or-more-at one-or-more.Post
   one-or-more-field-a-requires c κs = tt
