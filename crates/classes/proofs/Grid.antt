@@ -1,7 +1,7 @@
 -- The least of the names on the grid is the least of all.
 use Prim.Native.Nat.{ℕ, _≤_, _<_}
 use mathlib.Core.Path.{_≡_, refl, sym, _∙_}
-use mathlib.Core.Bool.{Bool, true, false, _&&_, false≢true}
+use mathlib.Core.Bool.{true, false, false≢true}
 use mathlib.Core.Logic.{inl, inr}
 use mathlib.Core.List.{List}
 use native.Mathlib.Decide.{decLt}
@@ -12,6 +12,7 @@ use borrow.Author.Tests.{ltb-true}
 use Rattle.schema.specs.Relations.{Child}
 use Rattle.schema.specs.RowRule.{maxRows}
 use Rattle.schema.specs.Rows.{rowsOf, kindOf}
+use Rattle.schema.proofs.Fields.{and-both}
 use Rattle.classes.specs.Least.{Common, Before, Least}
 use Rattle.classes.specs.Membership.{holds, inClass}
 use Rattle.classes.specs.Search.{markedRows, Marked, Stands, Candidates, Covers, Sound, TriedAll}
@@ -40,10 +41,6 @@ in-table s u l c h e = go (decLt c markedRows)
         let z : kindOf s c ≡ 0 = past s c h n in
         absurd (false≢true (sym (holds-other s u l c (record { kind = refl; first = refl; second = refl }) (λ f. omega arith) (λ f. omega arith) (λ f. omega arith) (λ f. omega arith)) ∙ e))
 
-both : (a b : Bool) → (a && b) ≡ true → (a ≡ true) × (b ≡ true)
-both true b e = (refl, e)
-both false b e = absurd (false≢true e)
-
 -- for each common name one of the grid is common and not after it
 module _ (s m us ls : List ℕ) (c d i j : ℕ) (rows : rowsOf s ≤ maxRows) (size : length m ≡ markedRows) (closed : (p r : ℕ) → Marked m p → Child s p r → Marked m r) (first : c < markedRows → Marked m c) (second : d < markedRows → Marked m d) (spaces : Candidates s m Namespace us i) (locals : Candidates s m Local ls j) where
   on-grid : {v k : ℕ} (x : Stands s m Namespace us i v) (y : Stands s m Local ls j k) → 0 < k → Common s c d v k → Common s c d (x .by) (y .by)
@@ -51,7 +48,7 @@ module _ (s m us ls : List ℕ) (c d i j : ℕ) (rows : rowsOf s ≤ maxRows) (s
     where
       member : (e : ℕ) → (e < markedRows → Marked m e) → inClass s v k e ≡ true → inClass s (x .by) (y .by) e ≡ true
       member e marked h =
-          let g = both (ltb 0 k) (holds s v k e) h in
+          let g = and-both (ltb 0 k) (holds s v k e) h in
           sym (same-in-class s m v k (x .by) (y .by) closed (omega arith) (x .alike) (y .alike) e (marked (in-table s v k e rows (g .1))) l (y .low)) ∙ h
 
   not-after : {v k : ℕ} (x : Stands s m Namespace us i v) (y : Stands s m Local ls j k) → Before (x .by) (y .by) v k
@@ -66,7 +63,7 @@ module _ (s m us ls : List ℕ) (c d i j : ℕ) (rows : rowsOf s ≤ maxRows) (s
     where
       covered : (v k : ℕ) → Common s c d v k → Covers r v k
       covered v k h =
-          let l : 0 < k = ltb-true 0 k (both (ltb 0 k) (holds s v k c) (h .first) .0) in
+          let l : 0 < k = ltb-true 0 k (and-both (ltb 0 k) (holds s v k c) (h .first) .0) in
           let x = spaces v (omega arith) in
           let y = locals k l in
           covers-later r (t .tried (x .by) (y .by) (x .listed) (y .listed) (on-grid x y l h)) (not-after x y)

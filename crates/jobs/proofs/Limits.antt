@@ -58,7 +58,7 @@ module _ {t : Tables} (P : ℕ → Tables → Type 0) (add : Tables → List ℕ
   all-read number u n rest next p e = let s = lines-read number 0 u n rest next p e in (s .0, s .1, s .2, subst (λ (k : ℕ). P k (s .0)) (zero-add number) (s .3), s .4)
 
 -- a count keeps its limit
-count-limit : (key : List ℕ) (limit : ℕ) (l : List ℕ) {n : ℕ} → count key limit l ≡ some n → n ≤ limit
+pub count-limit : (key : List ℕ) (limit : ℕ) (l : List ℕ) {n : ℕ} → count key limit l ≡ some n → n ≤ limit
 count-limit key limit l {n} e =
     let r = then-some (after key l) e in
     let s = then-some (numberOf (r .0)) (r .2) in

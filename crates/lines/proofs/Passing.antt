@@ -60,22 +60,6 @@ module _ (key : List ℕ) (limit : ℕ) (l : List ℕ) where
     pub count-is : {n : ℕ} → numberOf text ≡ some n → n ≤ limit → count key limit l ≡ some n
     count-is {n} f h = count-at-most f ∙ rw (le-leb n limit h)
 
--- a count that is read keeps its limit
-pub count-keeps : (key : List ℕ) (limit : ℕ) (l : List ℕ) {n : ℕ} → count key limit l ≡ some n → n ≤ limit
-count-keeps key limit l {n} = by-key (after key l)
-  where
-    by-test : (m : ℕ) (t : Bool) → leb m limit ≡ t → cond t (some m) none ≡ some n → n ≤ limit
-    by-test m true e q = let f : m ≡ n = cc in omega (arith, leb-true m limit e)
-    by-test m false e q = let z : _≡_ {A = ℕ} 0 1 = cc in absurd (omega arith)
-
-    by-number : (o : Option ℕ) → andThen o (atMost limit) ≡ some n → n ≤ limit
-    by-number none q = let z : _≡_ {A = ℕ} 0 1 = cc in absurd (omega arith)
-    by-number (some m) q = by-test m (leb m limit) refl q
-
-    by-key : (o : Option (List ℕ)) → andThen o (λ text. andThen (numberOf text) (atMost limit)) ≡ some n → n ≤ limit
-    by-key none q = let z : _≡_ {A = ℕ} 0 1 = cc in absurd (omega arith)
-    by-key (some text) q = by-number (numberOf text) q
-
 module _ (key : List ℕ) (width : ℕ) (l : List ℕ) where
   pub row-no-key : after key l ≡ none → rowOf key width l ≡ none
   row-no-key e = rw e

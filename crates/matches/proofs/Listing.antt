@@ -9,6 +9,7 @@ use lib.ListN.{length, getD, take}
 use lib.Seq.{getD-take, length-take-le}
 use borrow.Author.Tests.{eq-eqb, eqb-true}
 use Rattle.tables.specs.Answers.{Decides}
+use Rattle.tables.proofs.Answers.{decides-same}
 use Rattle.schema.specs.Rows.{rowsOf}
 use Rattle.schema.proofs.Sorts.{definition-kind}
 use Rattle.schema.proofs.RowLaws.{few-rows, right-size}
@@ -29,10 +30,6 @@ use Rattle.listing.proofs.Order.{marked-rising, marked-lists}
 use Rattle.validity.proofs.Root.{root-element}
 use Rattle.matches.specs.MatchList.{MatchList, Written, Answers}
 use Rattle.matches.specs.declared.Answer.the-variants as answer
-
-decides-same : {A B : Type 0} → A ↔ B → (r : Bool) → Decides A r → Decides B r
-decides-same f true x = f .0 x
-decides-same f false x = λ b. x (f .1 b)
 
 module _ {bytes ends s t : List ℕ} (pass : TablesPass bytes ends s t) where
   pub nodes-few : nodesOf t ≤ maxNodes
@@ -103,7 +100,7 @@ module _ {bytes ends s t : List ℕ} (pass : TablesPass bytes ends s t) where
           let c = lists .listed number e in
           let f = lists .fits number e in
           let k = c .0 in
-          record { fit = omega arith; words = c .1; counted = c .0; rooted = decides-same (root-paired all) valid d; derived = d }
+          record { fit = omega arith; words = c .1; counted = c .0; rooted = decides-same valid (root-paired all .0) (root-paired all .1) d; derived = d }
 
       pub is-valid : Decides (Valid bytes ends s t) true → Answers bytes ends s t room list (answer.Valid number)
       is-valid d = record { pairs = markedPairs table (take n rows) (nodesOf t); all = all; says = whole true d }

@@ -11,10 +11,16 @@ use lib.Bits.{bitOr}
 use lib.ListN.{getD}
 use Rattle.tables.proofs.Numbers.{not-less}
 use Rattle.sets.specs.Bits.{bit}
-use Rattle.relations.specs.Relations.{Relation, Plus, once, more, Sweep, found, ahead, behind}
+use Rattle.relations.specs.Relations.{Relation, Plus, once, more}
 use Rattle.relations.specs.Words.{Holds, Image, front, Up}
 use Rattle.sets.proofs.Members.{or-has, has-or-l, has-or-r}
 use Rattle.relations.proofs.Words.{front-below, front-at, Row, Written}
+
+-- one sweep over any relation, from the last position to the first: a step ahead goes on with all that the sweep found from there, another with one step
+pub data Sweep (R : Relation) : ℕ → ℕ → Type 0 where
+  found : {i j : ℕ} → R i j → Sweep R i j
+  ahead : {i h j : ℕ} → R i h → i < h → Sweep R h j → Sweep R i j
+  behind : {i h j : ℕ} → R i h → h ≤ i → R h j → Sweep R i j
 
 pub sweep-low : (m : ℕ) (w : List ℕ) (i j : ℕ) → Sweep (Holds (front m w)) i j → i < m
 sweep-low m w i j (found a) = front-below m w i j a

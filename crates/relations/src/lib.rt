@@ -5,7 +5,7 @@ ghost use Prim.Native.Nat.{_+_, _^_, _<_, _≤_};
 ghost use lib.Bits.{bitOr};
 ghost use lib.ListN.{length};
 ghost use Rattle.sets.specs.Bits.{bit};
-ghost use Rattle.relations.specs.Relations.{Or, And, Then, Plus, Sweep};
+ghost use Rattle.relations.specs.Relations.{Or, And, Then, Plus};
 ghost use Rattle.relations.specs.Words.{Holds, Is, Image, front, next, Rest, Up, Empty, Gap, Single};
 
 // The union of the words of b at the members of s.
@@ -165,7 +165,6 @@ pub fn compose(m: u32, w: &mut [u64])
 pub fn close(m: u32, w: &mut [u64])
     ensures { λ _. ⌜ (m ≤ 64 → m ≤ length (now (w .entry)) → Up (Holds (front m (now (w .entry)))) → Is (front m (now (w .exit))) (Plus (Holds (front m (now (w .entry)))))) ⌝ }
     ensures rest { λ _. ⌜ Rest m m (now (w .entry)) (now (w .exit)) ⌝ }
-    ensures sweep { λ _. ⌜ (m ≤ 64 → m ≤ length (now (w .entry)) → Is (front m (now (w .exit))) (Sweep (Holds (front m (now (w .entry)))))) ⌝ }
 {
     if m > 64 {
         return;

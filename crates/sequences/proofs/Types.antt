@@ -1,22 +1,19 @@
 -- The content type of a row from those of its children, and when these do not go together.
-use mathlib.Core.Path.{_≡_, refl, sym, _∙_, ap, ap₂, subst}
+use mathlib.Core.Path.{_≡_, refl, sym, _∙_, ap₂, subst}
 use mathlib.Core.Bool.{Bool, true, false, not, cond, _&&_, _||_, true≢false, false≢true}
 use mathlib.Core.Logic.{_⊎_, inl, inr, ⊎-elim}
 use mathlib.Core.List.{List}
-use Prim.Native.Nat.{ℕ, max, _≤_, _<_}
+use Prim.Native.Nat.{ℕ, max, _<_}
 use native.Mathlib.Omega.{arith}
 use lib.Dec.{eqb}
 use borrow.Author.Tests.{lt-ltb, eqb-true, eq-eqb, not-true}
 use Rattle.tables.specs.Answers.{Decides}
 use Rattle.schema.specs.Kinds as kind
 use Rattle.schema.specs.Rows.{kindOf, bOf, childA, childB}
+use Rattle.schema.proofs.Fields.{and-both}
 use Rattle.places.specs.Paths.{isPair}
 use Rattle.sequences.specs.Content.{groupable, HasType, value-type, data-type-1, data-type-2, text-type, ref-type, empty-type, attribute-type, pair-type, oneOrMore-type, choice-type, SequenceFault, pair-not-groupable, repeat-not-groupable}
 use Rattle.sequences.specs.TypeTable.{noType, typed, fits, clashes, typeBy, clashBy, TypeIs}
-
-both : (x y : Bool) → (x && y) ≡ true → (x ≡ true) × (y ≡ true)
-both true y e = (refl, e)
-both false y e = absurd (false≢true e)
 
 three : (x y z : Bool) → (x && y && z) ≡ true → (x ≡ true) × (y ≡ true) × (z ≡ true)
 three true true z e = (refl, refl, e)
@@ -84,7 +81,7 @@ module _ (s : List ℕ) (r c d : ℕ) (first : TypeIs s (childA s r) c) (second 
       either Given (eqb k kind.oneOrMore) (λ e. either Given (fits c c)
       (λ f t. let g = three (typed c) (typed c) (groupable c c) f in oneOrMore-type (eqb-true _ _ e) (first .has (g .0)) (g .2)) (λ f. no-type)) (λ e₆.
       either Given (eqb k kind.choice) (λ e. either Given (typed c && typed d)
-      (λ f t. let g = both (typed c) (typed d) f in choice-type (eqb-true _ _ e) (first .has (g .0)) (second .has (g .1))) (λ f. no-type)) (λ e₇.
+      (λ f t. let g = and-both (typed c) (typed d) f in choice-type (eqb-true _ _ e) (first .has (g .0)) (second .has (g .1))) (λ f. no-type)) (λ e₇.
       either Given (isPair k) (λ e. either Given (fits c d)
       (λ f t. let g = three (typed c) (typed d) (groupable c d) f in pair-type e (first .has (g .0)) (second .has (g .1)) (g .2)) (λ f. no-type)) (λ e₈. no-type))))))))
 

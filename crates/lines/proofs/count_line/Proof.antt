@@ -7,6 +7,7 @@ use borrow.Author.Needs.{needs}
 use Rattle.jobs.specs.Lines.{linesOf}
 use Rattle.jobs.specs.Reading.{count}
 use Rattle.tables.specs.Place.{between}
+use Rattle.jobs.proofs.Limits.{count-limit}
 use Rattle.lines.proofs.Passing as passing
 use Rattle.numbers.proofs.Digits.{value-is, no-value}
 use Rattle.lines.proofs.count_line.Statement.{statement}
@@ -66,7 +67,7 @@ returns-3 c =
     let e = c .before .before .before .before .before .before .e in
     let l = rw (e .given .1) at (line-end .ensures) in
     let v = value-is (count (args .key .now) (args .limit) (between (args .file .now) (args .at) (e .given .0 .0))) (sym (c .before .before .before .count-of .ensures) ∙ c .before .n .given .1) in
-    record { keeps = passing.count-keeps (args .key .now) (args .limit) (between (args .file .now) (args .at) (e .given .0 .0)) v; passes = passing.line-passes (count (args .key .now) (args .limit)) (between (args .file .now) (args .at) (e .given .0 .0)) (linesOf (drop (e .given .0 .0 + 1) (args .file .now))) (l .splits) v }
+    record { keeps = count-limit (args .key .now) (args .limit) (between (args .file .now) (args .at) (e .given .0 .0)) v; passes = passing.line-passes (count (args .key .now) (args .limit)) (between (args .file .now) (args .at) (e .given .0 .0)) (linesOf (drop (e .given .0 .0 + 1) (args .file .now))) (l .splits) v }
 
 pub count-line-spec : {M : Type 1} → statement M
 count-line-spec =

@@ -3,9 +3,8 @@ use native.Mathlib.Omega.{arith}
 use borrow.Author.Needs.{needs}
 use mathlib.Core.Path.{refl, sym}
 use lib.Seq.{length-take-le}
-use Rattle.relations.proofs.Closure.{sweep-low, sweep-row, sweep-closes}
+use Rattle.relations.proofs.Closure.{Sweep, sweep-low, sweep-row, sweep-closes}
 use Rattle.relations.proofs.Words.{is-map, rest-same, Written, write-none, write-more, written}
-use Rattle.relations.specs.Relations.{Sweep}
 use Rattle.relations.specs.Words.{Holds, front}
 use Rattle.relations.proofs.close.Statement.{statement}
 use Rattle.relations.proofs.close.Tie as tie
@@ -17,10 +16,10 @@ abbrev μ-loop : tie.MeasureT-loop
 μ-loop m w₀ end i₀ w i = i
 
 returns : tie.Need-returns Inv-loop μ-loop
-returns c = (λ f l. absurd (omega arith), (rest-same, λ f l. absurd (omega arith)))
+returns c = (λ f l. absurd (omega arith), rest-same)
 
 returns-2 : tie.Need-returns-2 Inv-loop μ-loop
-returns-2 c = (λ f l. absurd (omega arith), (rest-same, λ f l. absurd (omega arith)))
+returns-2 c = (λ f l. absurd (omega arith), rest-same)
 
 loop-holds : tie.Need-loop-holds Inv-loop μ-loop
 loop-holds c = write-none (omega arith) (omega arith) (omega arith)
@@ -61,7 +60,7 @@ same-length c = c .before .loop .inv .rest .size
 returns-3 : tie.Need-returns-3 Inv-loop μ-loop
 returns-3 c = let g = c .before .loop .inv in
     let is = written g (c .loop-test .left) (sweep-low _ (c .before .before .before .before .before .args .w .now)) in
-    (λ f l up. is-map is (sweep-closes up), (g .rest, λ f l. is))
+    (λ f l up. is-map is (sweep-closes up), g .rest)
 
 pub close-spec : {M : Type 1} → statement M
 close-spec =
