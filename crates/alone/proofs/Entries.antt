@@ -13,7 +13,7 @@ use Rattle.schema.specs.Kinds as kind
 use Rattle.schema.specs.Rows.{kindOf, aOf, bOf}
 use Rattle.schema.specs.Views.{Pattern, patternBy, patternOf}
 use Rattle.schema.specs.Views as pattern
-use Rattle.restrictions.proofs.Passes.{SchemaPasses}
+use Rattle.restrictions.specs.Schema.{SchemaPasses}
 use Rattle.rules.specs.Items.{string, none, Lookups}
 use Rattle.rules.specs.Rules.{Match, NotMatchBy, text-1, empty, text-2}
 use Rattle.rules.specs.Job.{lookups, datatypeEqual}

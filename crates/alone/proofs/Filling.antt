@@ -10,7 +10,7 @@ use lib.ListN.{length, getD, set, length-set}
 use lib.Seq.{getD-set-same, getD-set-other}
 use Rattle.strings.specs.Strings.{textOf, maxStrings}
 use Rattle.datatypes.specs.Whitespace.{whitespace}
-use Rattle.restrictions.proofs.Passes.{SchemaPasses}
+use Rattle.restrictions.specs.Schema.{SchemaPasses}
 use Rattle.alone.specs.Alone.{entry, TellsString, TellsNothing, Alone}
 use Rattle.alone.specs.Rows.{NothingAt, RowOf, RowMade}
 

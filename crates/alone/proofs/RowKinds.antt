@@ -6,7 +6,7 @@ use mathlib.Core.Logic.{inl, inr, ⊎-map, ⊎-elim, _≢_, Iff·trans}
 use lib.ListN.{length, getD}
 use Rattle.schema.specs.Kinds as kind
 use Rattle.schema.specs.Rows.{kindOf, aOf, bOf}
-use Rattle.restrictions.proofs.Passes.{SchemaPasses}
+use Rattle.restrictions.specs.Schema.{SchemaPasses}
 use Rattle.rules.proofs.Reach.{operand, repeated, choice-first, choice-second, group-first, group-second, interleave-first, interleave-second, of-except}
 use Rattle.alone.specs.Rows.{EitherOf, NotOf, DataEntry, OneOf, EqualTo, SameRow, StringAt, RowOf, RowMade}
 use Rattle.alone.proofs.Filling.{row-map}

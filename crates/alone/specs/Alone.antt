@@ -10,7 +10,7 @@ use Rattle.datatypes.specs.Whitespace.{whitespace}
 use Rattle.schema.specs.Rows.{rowsOf}
 use Rattle.schema.specs.RowRule.{maxRows}
 use Rattle.schema.specs.Views.{patternOf}
-use Rattle.restrictions.proofs.Passes.{SchemaPasses}
+use Rattle.restrictions.specs.Schema.{SchemaPasses}
 use Rattle.rules.specs.Items.{string, none}
 use Rattle.rules.specs.Rules.{Matches}
 use Rattle.rules.specs.Job.{lookups}

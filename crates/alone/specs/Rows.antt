@@ -7,7 +7,7 @@ use lib.ListN.{length, getD}
 use Rattle.schema.specs.Kinds as kind
 use Rattle.schema.specs.Rows.{kindOf, aOf, bOf}
 use Rattle.strings.specs.Strings.{textOf, maxStrings}
-use Rattle.restrictions.proofs.Passes.{SchemaPasses}
+use Rattle.restrictions.specs.Schema.{SchemaPasses}
 use Rattle.datatypes.specs.Whitespace.{trimStart}
 use Rattle.rules.specs.Job.{datatypeEqual}
 use Rattle.alone.specs.Alone.{entry, TellsString, TellsNothing, Alone}

@@ -7,7 +7,7 @@ ghost use Prim.Native.Nat.{ℕ, _<_, _≤_};
 ghost use lib.ListN.{length, getD};
 ghost use Rattle.strings.specs.Strings.{textOf};
 ghost use Rattle.datatypes.specs.Whitespace.{whitespace};
-ghost use Rattle.restrictions.proofs.Passes.{SchemaPasses};
+ghost use Rattle.restrictions.specs.Schema.{SchemaPasses};
 ghost use Rattle.rules.specs.Job.{datatypeEqual};
 ghost use Rattle.schema.specs.Kinds.{none, value};
 ghost use Rattle.schema.specs.Rows.{kindOf};

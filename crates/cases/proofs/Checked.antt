@@ -18,7 +18,8 @@ use Rattle.instance.specs.Nodes.{nodesOf}
 use Rattle.instance.specs.NodeRule.{NodesRight}
 use Rattle.instance.proofs.Size.{some-node}
 use Rattle.instance.specs.Elements.{isElement}
-use Rattle.restrictions.proofs.Passes.{SchemaPasses, passes}
+use Rattle.restrictions.specs.Schema.{SchemaPasses}
+use Rattle.restrictions.proofs.Passes.{passes}
 use Rattle.relaxng.specs.Promises.{SchemaRefusal}
 use Rattle.rules.specs.Job.{lookups, Pair, Valid}
 use Rattle.rules.specs.Listed.{Precedes, Rising, rising-none, rising-one, rising-more, Lists}

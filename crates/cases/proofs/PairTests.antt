@@ -19,7 +19,7 @@ use Rattle.schema.proofs.Sorts.{definition-kind}
 use Rattle.instance.specs.Nodes.{nodesOf}
 use Rattle.instance.specs.NodeRule.{NodesRight}
 use Rattle.instance.proofs.Elements.{attribute-later, attributes-differ}
-use Rattle.restrictions.proofs.Passes.{SchemaPasses}
+use Rattle.restrictions.specs.Schema.{SchemaPasses}
 use Rattle.rules.specs.Items.{Item, element, string, Attributes, none, Lookups}
 use Rattle.rules.specs.Rules.{OkAsChildren, Match, WeakMatch, NotMatchBy}
 use Rattle.rules.specs.Job.{datatypeEqual, lookups, startRow, Valid}

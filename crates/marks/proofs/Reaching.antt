@@ -10,7 +10,7 @@ use Rattle.strings.specs.Strings.{textOf}
 use Rattle.schema.specs.Kinds as kind
 use Rattle.schema.specs.Rows.{kindOf, aOf, bOf}
 use Rattle.schema.specs.Views.{Pattern, patternOf, attribute, ref}
-use Rattle.restrictions.proofs.Passes.{SchemaPasses}
+use Rattle.restrictions.specs.Schema.{SchemaPasses}
 use Rattle.sets.specs.Bits.{bit}
 use Rattle.rules.specs.Items.{Item, element, string, Lookups}
 use Rattle.rules.specs.Job.{lookups}

@@ -12,7 +12,7 @@ use Rattle.tables.proofs.Numbers.{not-less}
 use Rattle.schema.specs.Kinds as kind
 use Rattle.schema.specs.Rows.{kindOf, aOf, bOf}
 use Rattle.schema.specs.Views.{Pattern, patternOf, attribute, oneOrMore, choice}
-use Rattle.restrictions.proofs.Passes.{SchemaPasses}
+use Rattle.restrictions.specs.Schema.{SchemaPasses}
 use Rattle.sets.proofs.Members.{none-has}
 use Rattle.rules.specs.Items.{element, only, Lookups}
 use Rattle.rules.specs.Rules.{Match, NotMatchBy, choice-1, choice-2, oneOrMore-1}

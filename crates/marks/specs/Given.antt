@@ -10,7 +10,7 @@ use Rattle.schema.specs.Rows.{rowsOf}
 use Rattle.schema.specs.RowRule.{maxRows}
 use Rattle.instance.specs.Nodes.{cOf}
 use Rattle.instance.specs.Width.{maxWidth}
-use Rattle.restrictions.proofs.Passes.{SchemaPasses}
+use Rattle.restrictions.specs.Schema.{SchemaPasses}
 use Rattle.sets.specs.Bits.{bit}
 use Rattle.rules.specs.Items.{Item, element, string}
 use Rattle.rules.specs.Rules.{NotMatchBy}

@@ -5,7 +5,7 @@ use mathlib.Core.Bool.{true}
 use mathlib.Core.List.{List}
 use lib.ListN.{length}
 use Rattle.schema.specs.Rows.{rowsOf}
-use Rattle.restrictions.proofs.Passes.{SchemaPasses}
+use Rattle.restrictions.specs.Schema.{SchemaPasses}
 use Rattle.sets.specs.Bits.{bit}
 use Rattle.relations.specs.Relations.{Relation}
 use Rattle.relations.specs.Words.{Is}

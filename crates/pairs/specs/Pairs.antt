@@ -11,7 +11,7 @@ use Rattle.instance.specs.Nodes.{nodesOf}
 use Rattle.instance.specs.NodeRule.{NodesRight}
 use Rattle.instance.specs.Width.{WidthFault}
 use Rattle.instance.specs.Elements.{isElement}
-use Rattle.restrictions.proofs.Passes.{SchemaPasses}
+use Rattle.restrictions.specs.Schema.{SchemaPasses}
 use Rattle.rules.specs.Rules.{NotMatchBy}
 use Rattle.rules.specs.Job.{lookups}
 use Rattle.rules.proofs.Inversion.{Paired}

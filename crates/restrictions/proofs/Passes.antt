@@ -7,26 +7,12 @@ use Rattle.tables.specs.Refusals.{goes-on}
 use Rattle.tables.specs.declared.Verdict.the-variants.{Passed}
 use Rattle.schema.specs.Kinds as kind
 use Rattle.schema.specs.Rows.{kindOf, childA, childB}
-use Rattle.schema.specs.RowRule.{RowsRight}
 use Rattle.schema.specs.Relations.{Below, Occurs}
 use Rattle.classes.specs.Membership.{inClass}
-use Rattle.places.specs.Places.{PlaceFault}
-use Rattle.places.specs.Names.{NameFault}
-use Rattle.places.specs.Paths.{PathFault, isPair, notInExcept, in-repeated-pair, in-except}
-use Rattle.sequences.specs.Content.{SequenceFault}
-use Rattle.occurrences.specs.Attributes.{AttributeFault, duplicate}
-use Rattle.occurrences.specs.Interleaves.{InterleaveFault, classReferred, same-element, text-twice}
-use Rattle.restrictions.specs.Schema.{SchemaVerdict}
-
--- no code from 2 to 8 finds a fault
-pub record SchemaPasses (strings : ℕ) (s : List ℕ) : Type 0 where
-  pub rows : RowsRight strings s
-  pub places : (r : ℕ) → ¬ PlaceFault s r
-  pub names : (r : ℕ) → ¬ NameFault s r
-  pub paths : (r : ℕ) → ¬ PathFault s r
-  pub sequences : (r : ℕ) → ¬ SequenceFault s r
-  pub attributes : (r : ℕ) → ¬ AttributeFault s r
-  pub interleaves : (r : ℕ) → ¬ InterleaveFault s r
+use Rattle.places.specs.Paths.{isPair, notInExcept, in-repeated-pair, in-except}
+use Rattle.occurrences.specs.Attributes.{duplicate}
+use Rattle.occurrences.specs.Interleaves.{classReferred, same-element, text-twice}
+use Rattle.restrictions.specs.Schema.{SchemaVerdict, SchemaPasses}
 
 pub passes : {strings : ℕ} {s : List ℕ} → SchemaVerdict strings s Passed → SchemaPasses strings s
 passes (goes-on rows (goes-on places (goes-on names (goes-on paths (goes-on sequences (goes-on attributes (goes-on interleaves e))))))) = record {

@@ -14,7 +14,7 @@ use Rattle.schema.proofs.RowLaws.{right-size, in-table}
 use Rattle.places.specs.Paths.{isPair}
 use Rattle.places.specs.Places.{holdsWhole, notAllowed-inside}
 use Rattle.sequences.specs.Content.{HasType, groupable, value-type, data-type-1, data-type-2, text-type, ref-type, empty-type, attribute-type, pair-type, oneOrMore-type, choice-type, pair-not-groupable, repeat-not-groupable}
-use Rattle.restrictions.proofs.Passes.{SchemaPasses}
+use Rattle.restrictions.specs.Schema.{SchemaPasses}
 
 abbrev Typed : List ℕ → ℕ → Type 0
 Typed s r = (c : ℕ) × HasType s r c

@@ -3,7 +3,7 @@ use Prim.Native.Nat.{ℕ}
 use mathlib.Core.List.{List}
 use Rattle.tables.specs.Refusals.{Tries, Passes}
 use Rattle.tables.specs.declared.Verdict.{Verdict}
-use Rattle.schema.specs.RowRule.{RowFault}
+use Rattle.schema.specs.RowRule.{RowFault, RowsRight}
 use Rattle.places.specs.Places.{PlaceFault}
 use Rattle.places.specs.Names.{NameFault}
 use Rattle.places.specs.Paths.{PathFault}
@@ -25,3 +25,13 @@ SchemaTries strings s next =
 -- the verdict on them alone
 abbrev pub SchemaVerdict : ℕ → List ℕ → Verdict → Type 0
 SchemaVerdict strings s = SchemaTries strings s Passes
+
+-- no code from 2 to 8 finds a fault
+pub record SchemaPasses (strings : ℕ) (s : List ℕ) : Type 0 where
+  pub rows : RowsRight strings s
+  pub places : (r : ℕ) → ¬ PlaceFault s r
+  pub names : (r : ℕ) → ¬ NameFault s r
+  pub paths : (r : ℕ) → ¬ PathFault s r
+  pub sequences : (r : ℕ) → ¬ SequenceFault s r
+  pub attributes : (r : ℕ) → ¬ AttributeFault s r
+  pub interleaves : (r : ℕ) → ¬ InterleaveFault s r

@@ -16,7 +16,7 @@ use Rattle.schema.specs.Views.{Pattern}
 use Rattle.schema.proofs.Children.{child-is}
 use Rattle.places.specs.Places.{holdsWhole, notAllowed-inside}
 use Rattle.sequences.specs.Content.{HasType, emptyType, complexType, simpleType, groupable, value-type, data-type-1, data-type-2, text-type, ref-type, empty-type, attribute-type, pair-type, oneOrMore-type, choice-type, pair-not-groupable, repeat-not-groupable}
-use Rattle.restrictions.proofs.Passes.{SchemaPasses}
+use Rattle.restrictions.specs.Schema.{SchemaPasses}
 use Rattle.sequences.proofs.Types.{pair-kind}
 use Rattle.restrictions.proofs.Typed.{grouped, has-content-type}
 use Rattle.rules.proofs.Reach.{isSimple, takesAny}

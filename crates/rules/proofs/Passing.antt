@@ -18,7 +18,8 @@ use Rattle.places.specs.Paths as path
 use Rattle.instance.specs.Nodes as node
 use Rattle.sequences.specs.Content.{HasType, simpleType, complexType}
 use Rattle.occurrences.specs.Interleaves.{classReferred}
-use Rattle.restrictions.proofs.Passes.{SchemaPasses, attributes-apart, elements-apart, texts-apart}
+use Rattle.restrictions.specs.Schema.{SchemaPasses}
+use Rattle.restrictions.proofs.Passes.{attributes-apart, elements-apart, texts-apart}
 use Rattle.restrictions.proofs.Passes as passes
 use Rattle.rules.specs.Items.{Item, element, string, Lookups}
 use Rattle.rules.specs.Job.{lookups}

@@ -16,7 +16,8 @@ use Rattle.schema.proofs.RowLaws.{right-size}
 use Rattle.schema.proofs.Sorts.{last-kind}
 use Rattle.places.specs.Paths.{notInExcept, notInStart, in-start}
 use Rattle.places.proofs.Sweep.{further}
-use Rattle.restrictions.proofs.Passes.{SchemaPasses, except-plain}
+use Rattle.restrictions.specs.Schema.{SchemaPasses}
+use Rattle.restrictions.proofs.Passes.{except-plain}
 use Rattle.rules.specs.Items.{Lookups}
 use Rattle.rules.specs.Job.{lookups, startRow}
 use Rattle.rules.proofs.Reach.{Part, operand, choice-first, choice-second, of-except}

@@ -10,7 +10,7 @@ use Rattle.schema.specs.Rows.{rowsOf, kindOf, aOf, bOf, shapeOf, names}
 use Rattle.schema.specs.Relations.{Child, by-a, by-b, Below, child, deeper}
 use Rattle.schema.specs.Views.{Pattern, patternOf, ref}
 use Rattle.places.proofs.Sweep.{further}
-use Rattle.restrictions.proofs.Passes.{SchemaPasses}
+use Rattle.restrictions.specs.Schema.{SchemaPasses}
 use Rattle.rules.specs.Items.{Item, element, Attributes, none, Lookups}
 use Rattle.rules.specs.Rules.{choice-1, choice-2, Matches, Proved}
 use Rattle.rules.specs.Rules as rule

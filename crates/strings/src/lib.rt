@@ -5,6 +5,7 @@ ghost use Prim.Native.Nat.{_≤_, _<_};
 ghost use lib.ListN.{length};
 ghost use Rattle.tables.specs.Answers.{Decides, Finds};
 ghost use Rattle.tables.specs.Place.{Part};
+ghost use Rattle.tables.specs.Tables.{stringTable};
 ghost use Rattle.strings.specs.Strings.{startOf, endOf, Falls, Repeats, FrontFault, EndFault, StringFault, maxStrings};
 ghost use Rattle.strings.specs.Chains.{hashOf, hashAt, LastOf, Linked};
 ghost use Rattle.strings.specs.Text.{StringText};
@@ -60,8 +61,8 @@ fn hash(text: &[u8]) -> usize
 
 // Whether a string before k has the text of string k. Only strings with its hash can; they are visited from the last one on, whose number is one less than `last`.
 fn repeats(bytes: &[u8], ends: &[u32], prior: &[u32; 512], last: u32, k: usize) -> bool
-    requires { ⌜ (k < length (now ends)) × (k < 512) × LastOf (now bytes) (now ends) (hashAt (now bytes) (now ends) k) k last × Linked (now bytes) (now ends) (now prior) k ⌝ }
-    ensures { λ r. ⌜ Decides (Repeats (now (bytes .entry)) (now (ends .entry)) k) r ⌝ }
+    requires { ⌜ (k < length (now ends)) × (k < 512) × LastOf (stringTable (now bytes) (now ends)) (hashAt (stringTable (now bytes) (now ends)) k) k last × Linked (stringTable (now bytes) (now ends)) (now prior) k ⌝ }
+    ensures { λ r. ⌜ Decides (Repeats (stringTable (now (bytes .entry)) (now (ends .entry))) k) r ⌝ }
 {
     let own = text(bytes, ends, k);
     let mut m = last;
@@ -78,7 +79,7 @@ fn repeats(bytes: &[u8], ends: &[u32], prior: &[u32; 512], last: u32, k: usize) 
 // The first string that has the text of one before it. For each hash, `last` has one more than the number of the last string with it, and 0 where there is none; `prior` has for each string what `last` had for its hash.
 fn first_repeat(bytes: &[u8], ends: &[u32]) -> Checked
     requires { ⌜ length (now ends) ≤ maxStrings ⌝ }
-    ensures { λ r. ⌜ Finds (Repeats (now (bytes .entry)) (now (ends .entry))) r ⌝ }
+    ensures { λ r. ⌜ Finds (Repeats (stringTable (now (bytes .entry)) (now (ends .entry)))) r ⌝ }
 {
     let mut last = [0u32; 512];
     let mut prior = [0u32; 512];
@@ -98,7 +99,7 @@ fn first_repeat(bytes: &[u8], ends: &[u32]) -> Checked
 
 // The number of strings, the number of bytes, and string 0.
 fn check_front(bytes: &[u8], ends: &[u32]) -> Checked
-    ensures { λ r. ⌜ Finds (FrontFault (now (bytes .entry)) (now (ends .entry))) r ⌝ }
+    ensures { λ r. ⌜ Finds (FrontFault (stringTable (now (bytes .entry)) (now (ends .entry)))) r ⌝ }
 {
     if ends.len() == 0 {
         return Checked::Fault(0);
@@ -117,7 +118,7 @@ fn check_front(bytes: &[u8], ends: &[u32]) -> Checked
 
 // The counts and the ends.
 fn check_ends(bytes: &[u8], ends: &[u32]) -> Checked
-    ensures { λ r. ⌜ Finds (EndFault (now (bytes .entry)) (now (ends .entry))) r ⌝ }
+    ensures { λ r. ⌜ Finds (EndFault (stringTable (now (bytes .entry)) (now (ends .entry)))) r ⌝ }
 {
     let front = check_front(bytes, ends);
     let Checked::Fine = front else {
@@ -136,7 +137,7 @@ fn check_ends(bytes: &[u8], ends: &[u32]) -> Checked
 
 // Code 1: the place of the first string that breaks the rule of the table.
 pub fn check_strings(bytes: &[u8], ends: &[u32]) -> Checked
-    ensures { λ r. ⌜ Finds (StringFault (now (bytes .entry)) (now (ends .entry))) r ⌝ }
+    ensures { λ r. ⌜ Finds (StringFault (stringTable (now (bytes .entry)) (now (ends .entry)))) r ⌝ }
 {
     let checked = check_ends(bytes, ends);
     let Checked::Fine = checked else {

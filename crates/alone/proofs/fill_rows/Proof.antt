@@ -2,7 +2,7 @@
 use Prim.Native.Nat.{ℕ, _-_, _≤_}
 use Rattle.alone.proofs.Filling.{rows-none, rows-more}
 use Rattle.alone.specs.Alone.{Alone}
-use Rattle.restrictions.proofs.Passes.{SchemaPasses}
+use Rattle.restrictions.specs.Schema.{SchemaPasses}
 use borrow.Author.Needs.{needs}
 use denote.Ref.{now}
 use lib.ListN.{length, length-set}

@@ -6,6 +6,7 @@ use denote.Ref.{now}
 use lib.ListN.{length, length-set, length-replicate}
 use borrow.Author.Count.{below-none, below-more}
 use borrow.Author.Needs.{needs}
+use Rattle.tables.specs.Tables.{stringTable}
 use Rattle.tables.proofs.Answers.{finds-none, said-yes, said-no}
 use Rattle.tables.specs.Answers.{Clear}
 use Rattle.strings.specs.Strings.{Repeats}
@@ -15,7 +16,7 @@ use Rattle.strings.proofs.first_repeat.Statement.{statement}
 use Rattle.strings.proofs.first_repeat.Tie as tie
 
 abbrev Inv-loop : tie.InvT-loop
-Inv-loop bytes ends last₀ prior₀ k₀ last prior k = (k ≤ length ends) × Clear (Repeats bytes ends) k × Lasts bytes ends last k × (length prior ≡ 512) × Linked bytes ends prior k
+Inv-loop bytes ends last₀ prior₀ k₀ last prior k = (k ≤ length ends) × Clear (Repeats (stringTable bytes ends)) k × Lasts (stringTable bytes ends) last k × (length prior ≡ 512) × Linked (stringTable bytes ends) prior k
 
 abbrev μ-loop : tie.MeasureT-loop
 μ-loop bytes ends last₀ prior₀ k₀ last prior k = length ends - k

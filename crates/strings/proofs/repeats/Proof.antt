@@ -4,13 +4,14 @@ use mathlib.Core.Path.{_≡_, sym, _∙_}
 use Prim.Native.Nat.{suc, _-_}
 use native.Mathlib.Omega.{arith}
 use borrow.Author.Needs.{needs}
+use Rattle.tables.specs.Tables.{stringTable}
 use Rattle.tables.proofs.Answers.{said-yes, said-no}
 use Rattle.strings.proofs.Chains.{Walked, walk-start, walk-step}
 use Rattle.strings.proofs.repeats.Statement.{statement}
 use Rattle.strings.proofs.repeats.Tie as tie
 
 abbrev Inv-loop : tie.InvT-loop
-Inv-loop bytes ends prior last k own m₀ m = Walked bytes ends k m
+Inv-loop bytes ends prior last k own m₀ m = Walked (stringTable bytes ends) k m
 
 abbrev μ-loop : tie.MeasureT-loop
 μ-loop bytes ends prior last k own m₀ m = m
