@@ -19,7 +19,7 @@ use Rattle.rules.specs.Rules.{Match, NotMatchBy, text-1, empty, text-2}
 use Rattle.rules.specs.Job.{lookups, datatypeEqual}
 use Rattle.rules.proofs.Inversion.{One, stepwise}
 use Rattle.rules.proofs.Passing.{restricted}
-use Rattle.rules.proofs.Reach.{Part, operand, repeated, choice-first, choice-second, group-first, group-second, interleave-first, interleave-second, of-except}
+use Rattle.rules.specs.Reach.{Part, operand, repeated, choice-first, choice-second, group-first, group-second, interleave-first, interleave-second, of-except}
 use Rattle.rules.proofs.RowPatterns.{Makes, makes-empty, makes-notAllowed, makes-text, makes-data, makes-except, makes-value, makes-attribute, makes-ref, makes-oneOrMore, makes-choice, makes-group, makes-interleave, makes-none, row-makes}
 use Rattle.rules.proofs.Strata.{not-match}
 use Rattle.alone.specs.Alone.{TellsString, Alone}

@@ -7,7 +7,7 @@ use lib.ListN.{length, getD}
 use Rattle.schema.specs.Kinds as kind
 use Rattle.schema.specs.Rows.{kindOf, aOf, bOf}
 use Rattle.restrictions.specs.Schema.{SchemaPasses}
-use Rattle.rules.proofs.Reach.{operand, repeated, choice-first, choice-second, group-first, group-second, interleave-first, interleave-second, of-except}
+use Rattle.rules.specs.Reach.{operand, repeated, choice-first, choice-second, group-first, group-second, interleave-first, interleave-second, of-except}
 use Rattle.alone.specs.Rows.{EitherOf, NotOf, DataEntry, OneOf, EqualTo, SameRow, StringAt, RowOf, RowMade}
 use Rattle.alone.proofs.Filling.{row-map}
 use Rattle.alone.proofs.Entries.{one-iff, not-one, Rest, falls, is-except, is-oneOrMore, is-choice, is-group, is-interleave, string-text, string-data, string-value, string-same, string-oneOrMore, string-choice, string-group, string-interleave, string-rest}

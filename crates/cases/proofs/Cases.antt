@@ -11,7 +11,7 @@ use Rattle.instance.specs.Elements.{rowsWhere}
 use Rattle.instance.specs.NodeRule.{fieldsRight}
 use Rattle.instance.specs.Width.{howMany}
 use Rattle.sequences.specs.TypeTable.{typeBy, clashBy}
-use Rattle.rules.proofs.Runs.{run}
+use Rattle.rules.specs.Spans.{run}
 use Rattle.cases.specs.Meaning.{AllHold}
 use Rattle.cases.specs.Table.{table}
 use Rattle.cases.proofs.Tests.{everyBelow, someBelow}

@@ -6,8 +6,8 @@ use lib.Dec.{eqb, ltb}
 use Rattle.schema.specs.Views.{Pattern, empty, notAllowed, text, dataAll, dataExcept, value, attribute, ref, oneOrMore, choice, group, interleave, noPattern}
 use Rattle.rules.specs.Items.{Item, element, string, Attributes, none, only, Lookups}
 use Rattle.rules.proofs.Booleans.{_∩_, _∖_}
-use Rattle.rules.proofs.Reach.{namesAttribute, takes}
-use Rattle.rules.proofs.Runs.{run}
+use Rattle.rules.specs.Reach.{namesAttribute, takes}
+use Rattle.rules.specs.Spans.{run}
 use Rattle.rules.proofs.Sequences.{hasElement}
 use Rattle.cases.proofs.Tests.{everyBelow, someBelow}
 use Rattle.cases.proofs.ReachTests.{reachTest}

@@ -25,13 +25,14 @@ use Rattle.rules.specs.Rules.{OkAsChildren, Match, WeakMatch, NotMatchBy}
 use Rattle.rules.specs.Job.{datatypeEqual, lookups, startRow, Valid}
 use Rattle.rules.proofs.Booleans.{and-left, and-right, and-both}
 use Rattle.rules.proofs.Children.{children-ok, child-element}
-use Rattle.rules.proofs.Inversion.{Paired}
+use Rattle.rules.specs.Spans.{Paired}
 use Rattle.rules.proofs.OneElement.{no-element, stripped-clean, weak-empty, weak-string, weak-span}
 use Rattle.rules.proofs.Passing.{restricted}
 use Rattle.rules.proofs.Paths.{start-child}
-use Rattle.rules.proofs.Repeats.{Distinct}
-use Rattle.rules.proofs.Restricted.{Restricted}
-use Rattle.rules.proofs.Runs.{run, run-list}
+use Rattle.rules.specs.Spans.{Distinct}
+use Rattle.rules.specs.Restricted.{Restricted}
+use Rattle.rules.specs.Spans.{run}
+use Rattle.rules.proofs.Runs.{run-list}
 use Rattle.rules.proofs.Sequences.{hasElement}
 use Rattle.rules.proofs.Spans.{span-whole}
 use Rattle.rules.proofs.Stripping.{notWhitespace}

@@ -5,8 +5,8 @@ use mathlib.Core.Bool.{Bool, true, false, false≢true}
 use native.Mathlib.Omega.{arith}
 use Rattle.schema.specs.Views.{Pattern, empty, notAllowed, text, dataAll, dataExcept, value, attribute, ref, oneOrMore, choice, group, interleave, noPattern}
 use Rattle.rules.specs.Items.{Lookups}
-use Rattle.rules.proofs.Reach.{Operand, repeated, choice-first, choice-second, group-first, group-second, interleave-first, interleave-second, operand, Reaches, here, there}
-use Rattle.rules.proofs.Restricted.{Restricted}
+use Rattle.rules.specs.Reach.{Operand, repeated, choice-first, choice-second, group-first, group-second, interleave-first, interleave-second, operand, Reaches, here, there}
+use Rattle.rules.specs.Restricted.{Restricted}
 
 -- an operand passes the test
 abbrev either : (ℕ → Bool) → ℕ → ℕ → Bool

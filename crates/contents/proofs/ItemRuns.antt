@@ -19,7 +19,8 @@ use Rattle.sets.specs.Bits.{bit}
 use Rattle.rules.specs.Items.{Item, string}
 use Rattle.rules.specs.Items as item
 use Rattle.rules.specs.Job.{itemOf, lookups}
-use Rattle.rules.proofs.Runs.{run, kept, run-add, run-list}
+use Rattle.rules.specs.Spans.{run}
+use Rattle.rules.proofs.Runs.{kept, run-add, run-list}
 use Rattle.marks.specs.Given.{itemAt}
 use Rattle.marks.specs.Tests.{Collects}
 use Rattle.contents.specs.Contents.{Holds, Children, itemWord, ofKind, Itemized, Contents}

@@ -25,7 +25,7 @@ use Rattle.rules.proofs.Booleans.{or-either, or-left, or-right, and-left, and-r
 use Rattle.rules.proofs.Inversion.{One, step}
 use Rattle.rules.proofs.OneElement.{weak-string}
 use Rattle.rules.proofs.Passing.{restricted}
-use Rattle.rules.proofs.Reach.{Part, of-attribute}
+use Rattle.rules.specs.Reach.{Part, of-attribute}
 use Rattle.rules.proofs.RowPatterns.{row-makes}
 use Rattle.alone.specs.Alone.{entry}
 use Rattle.marks.specs.Given.{itemAt, pairEntry, Given}

@@ -15,7 +15,7 @@ use Rattle.tables.proofs.Numbers.{not-less}
 use Rattle.sets.specs.Bits.{bit}
 use Rattle.sets.proofs.Members.{none-has, or-has, has-or-l, has-or-r}
 use Rattle.rules.specs.Items.{Lookups}
-use Rattle.rules.proofs.Reach.{Operand, repeated, choice-first, choice-second, group-first, group-second, interleave-first, interleave-second, Reaches, here, there}
+use Rattle.rules.specs.Reach.{Operand, repeated, choice-first, choice-second, group-first, group-second, interleave-first, interleave-second, Reaches, here, there}
 use Rattle.rules.proofs.RowPatterns.{Makes, makes-empty, makes-notAllowed, makes-text, makes-data, makes-except, makes-value, makes-attribute, makes-ref, makes-oneOrMore, makes-choice, makes-group, makes-interleave, makes-none}
 use Rattle.marks.specs.Tests.{joinedBy}
 use Rattle.marks.proofs.RowKinds.{operand-kinds}

@@ -16,7 +16,7 @@ use Rattle.rules.specs.Items.{Item, element, string, Lookups}
 use Rattle.rules.specs.Job.{lookups}
 use Rattle.rules.proofs.Booleans.{is-false}
 use Rattle.rules.proofs.KindTests.{attribute-made, ref-made}
-use Rattle.rules.proofs.Reach.{Reaches, here, namesAttribute, namesElement, takes, takesString}
+use Rattle.rules.specs.Reach.{Reaches, here, namesAttribute, namesElement, takes, takesString}
 use Rattle.rules.proofs.RowPatterns.{Makes, row-makes}
 use Rattle.marks.specs.Answers.{AtOperands}
 use Rattle.marks.specs.Given.{itemAt}

@@ -12,7 +12,7 @@ use Rattle.schema.specs.RowRule.{RowsRight}
 use Rattle.schema.specs.Views.{Pattern, patternBy, patternOf, text, dataAll, dataExcept, value, attribute, ref, oneOrMore, choice}
 use Rattle.schema.proofs.Fields.{both-fields, is-text, is-data, is-value}
 use Rattle.schema.proofs.Sorts.{definition-kind}
-use Rattle.rules.proofs.Reach.{isPair, takesAny, takesString, Operand, repeated, choice-first, choice-second, group-first, group-second, interleave-first, interleave-second}
+use Rattle.rules.specs.Reach.{isSharing, takesAny, takesString, Operand, repeated, choice-first, choice-second, group-first, group-second, interleave-first, interleave-second}
 use Rattle.rules.proofs.RowPatterns.{Makes, makes-empty, makes-notAllowed, makes-text, makes-data, makes-except, makes-value, makes-attribute, makes-ref, makes-oneOrMore, makes-choice, makes-group, makes-interleave, makes-none, has-kind}
 
 -- the patterns that take a string

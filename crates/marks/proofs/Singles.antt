@@ -22,11 +22,11 @@ use Rattle.rules.proofs.Inversion.{step, AttributeMatch}
 use Rattle.rules.proofs.KindTests.{attribute-made}
 use Rattle.rules.proofs.Occurrences.{named}
 use Rattle.rules.proofs.Passing.{restricted}
-use Rattle.rules.proofs.Reach.{Operand, repeated, choice-first, choice-second, Reaches, here, there, itself, down, namesAttribute}
+use Rattle.rules.specs.Reach.{Operand, repeated, choice-first, choice-second, Reaches, here, there, itself, down, namesAttribute}
 use Rattle.rules.proofs.Repeats.{span-oneOrMore-attributes}
-use Rattle.rules.proofs.Restricted.{Restricted}
+use Rattle.rules.specs.Restricted.{Restricted}
 use Rattle.rules.proofs.RowPatterns.{Makes, row-makes}
-use Rattle.rules.proofs.Runs.{run}
+use Rattle.rules.specs.Spans.{run}
 use Rattle.marks.specs.Answers.{AtOperands}
 use Rattle.marks.specs.Marks.{attributeRow, TakesAttribute}
 use Rattle.marks.specs.Marks.{AttributeWord, SingleWord}

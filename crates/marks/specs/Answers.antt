@@ -11,7 +11,7 @@ use Rattle.schema.specs.Rows.{rowsOf, kindOf, aOf, bOf}
 use Rattle.schema.specs.Views.{patternOf}
 use Rattle.instance.specs.Width.{maxWidth}
 use Rattle.restrictions.specs.Schema.{SchemaPasses}
-use Rattle.rules.proofs.Reach.{Operand}
+use Rattle.rules.specs.Reach.{Operand}
 use Rattle.marks.specs.Given.{itemAt, Given}
 use Rattle.marks.specs.Marks.{LeafWord, AttributeWord, NamedWord, TakenWord, SingleWord, RowMarked, PatternMarked, StayMarked, Marking}
 

@@ -15,7 +15,7 @@ use Rattle.sets.specs.Bits.{bit}
 use Rattle.rules.specs.Items.{Item, element, string}
 use Rattle.rules.specs.Rules.{NotMatchBy}
 use Rattle.rules.specs.Job.{lookups}
-use Rattle.rules.proofs.Inversion.{Paired}
+use Rattle.rules.specs.Spans.{Paired}
 use Rattle.alone.specs.Alone.{Alone, Blank}
 use Rattle.marks.specs.Marks.{attributeRow}
 

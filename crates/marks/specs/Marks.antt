@@ -13,9 +13,9 @@ use Rattle.sets.specs.Bits.{bit}
 use Rattle.rules.specs.Items.{Item, element, string, Attributes, none, only, Lookups}
 use Rattle.rules.specs.Rules.{Match, WeakMatch, NotMatchBy}
 use Rattle.rules.specs.Job.{lookups}
-use Rattle.rules.proofs.Reach.{Reaches, namesAttribute, takes, takesAny}
-use Rattle.rules.proofs.Restricted.{Flat}
-use Rattle.rules.proofs.Inversion.{Paired}
+use Rattle.rules.specs.Reach.{Reaches, namesAttribute, takes, takesAny}
+use Rattle.rules.specs.Restricted.{Flat}
+use Rattle.rules.specs.Spans.{Paired}
 
 -- attribute x of element e stands at row e + 1 + x; a set of its attributes by a word
 abbrev pub attributeRow : ℕ → ℕ → ℕ

@@ -19,7 +19,8 @@ use Rattle.instance.proofs.Size.{few-nodes, some-node}
 use Rattle.definitions.specs.Definitions.{Definitions}
 use Rattle.rules.specs.Rules.{NotMatchBy, Proved}
 use Rattle.rules.specs.Job.{lookups, Pair, Valid, StartNames}
-use Rattle.rules.proofs.Inversion.{Paired, against}
+use Rattle.rules.specs.Spans.{Paired}
+use Rattle.rules.proofs.Inversion.{against}
 use Rattle.rules.proofs.RowPatterns.{has-kind}
 use Rattle.rules.proofs.Validity.{valid}
 use Rattle.pairs.specs.Pairs.{TablesPass, PairsRight}

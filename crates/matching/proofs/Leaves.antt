@@ -22,10 +22,11 @@ use Rattle.rules.specs.Job.{lookups}
 use Rattle.rules.proofs.Booleans.{and-left, and-right, is-false, sole-member}
 use Rattle.rules.proofs.Inversion.{One}
 use Rattle.rules.proofs.Sequences.{hasElement}
-use Rattle.rules.proofs.Runs.{run}
+use Rattle.rules.specs.Spans.{run}
 use Rattle.rules.proofs.Positions.{run-empty, run-single, run-strings}
-use Rattle.rules.proofs.Reach.{takesAny}
-use Rattle.rules.proofs.Spans.{Span, ItemsOnly, OnePaired, span-empty, span-text, span-value, span-dataAll, span-dataExcept, span-ref, span-attribute, span-notAllowed, span-noPattern}
+use Rattle.rules.specs.Reach.{takesAny}
+use Rattle.rules.specs.Spans.{Span}
+use Rattle.rules.proofs.Spans.{ItemsOnly, OnePaired, span-empty, span-text, span-value, span-dataAll, span-dataExcept, span-ref, span-attribute, span-notAllowed, span-noPattern}
 use Rattle.marks.specs.Marks.{attributeRow, attributesIn, IsString, IsPaired, Takes, TakesAttribute}
 use Rattle.matching.specs.Setting.{Setting, Asked, Related, Covered}
 use Rattle.matching.specs.Parts.{Where, OneIn}

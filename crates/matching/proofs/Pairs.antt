@@ -19,9 +19,10 @@ use Rattle.rules.specs.Job.{lookups}
 use Rattle.rules.proofs.Booleans.{_∩_, _∖_}
 use Rattle.rules.proofs.Groups.{Tells, span-group, span-interleave}
 use Rattle.rules.proofs.Passing.{restricted}
-use Rattle.rules.proofs.Reach.{Reaches, namesAttribute, takes}
-use Rattle.rules.proofs.Restricted.{Restricted}
-use Rattle.rules.proofs.Spans.{Span, span-choice}
+use Rattle.rules.specs.Reach.{Reaches, namesAttribute, takes}
+use Rattle.rules.specs.Restricted.{Restricted}
+use Rattle.rules.specs.Spans.{Span}
+use Rattle.rules.proofs.Spans.{span-choice}
 use Rattle.marks.specs.Marks.{attributesIn}
 use Rattle.matching.specs.Setting.{Setting, Asked, Related, Covered}
 use Rattle.matching.proofs.Shares.{bits-both, bits-without, numberOf, hasRow, in-row, attributes-both, attributes-without, row-covered}

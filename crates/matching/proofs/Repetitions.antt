@@ -22,8 +22,8 @@ use Rattle.rules.specs.Job.{lookups}
 use Rattle.rules.proofs.Passing.{restricted}
 use Rattle.rules.proofs.Positions.{run-empty}
 use Rattle.rules.proofs.Repeats.{Repeated, span-oneOrMore, span-oneOrMore-attributes}
-use Rattle.rules.proofs.Restricted.{Restricted}
-use Rattle.rules.proofs.Spans.{Span}
+use Rattle.rules.specs.Restricted.{Restricted}
+use Rattle.rules.specs.Spans.{Span}
 use Rattle.marks.specs.Marks.{attributeRow, attributesIn}
 use Rattle.matching.specs.Setting.{Setting, Asked, Related, Covered}
 use Rattle.matching.specs.Parts.{Within, Repeats}

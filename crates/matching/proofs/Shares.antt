@@ -15,7 +15,7 @@ use Rattle.rules.specs.Items.{Attributes, none}
 use Rattle.rules.specs.Job.{lookups}
 use Rattle.rules.proofs.Booleans.{_∩_, _∖_, and-left, and-right, and-both}
 use Rattle.rules.proofs.Occurrences.{clean-part}
-use Rattle.rules.proofs.Reach.{Operand}
+use Rattle.rules.specs.Reach.{Operand}
 use Rattle.rules.proofs.Repeats.{distinct-part}
 use Rattle.rules.proofs.RowPatterns.{operand-occurs}
 use Rattle.marks.specs.Marks.{attributeRow, attributesIn, RowMarked}

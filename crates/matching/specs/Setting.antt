@@ -12,9 +12,9 @@ use Rattle.relations.specs.Words.{Is}
 use Rattle.rules.specs.Items.{Item}
 use Rattle.rules.specs.Rules.{NotMatchBy}
 use Rattle.rules.specs.Job.{lookups}
-use Rattle.rules.proofs.Occurrences.{CleanAt}
-use Rattle.rules.proofs.Repeats.{Distinct}
-use Rattle.rules.proofs.Spans.{Span}
+use Rattle.rules.specs.Spans.{CleanAt}
+use Rattle.rules.specs.Spans.{Distinct}
+use Rattle.rules.specs.Spans.{Span}
 use Rattle.marks.specs.Marks.{attributesIn, PatternMarked}
 
 -- an element, for a schema that passes: its attributes and items

@@ -29,9 +29,11 @@ use Rattle.rules.proofs.Children.{first-empty, children-ok}
 use Rattle.rules.proofs.Inversion.{One}
 use Rattle.rules.proofs.OneElement.{no-element, strings-clean, stripped-clean, weak-empty, weak-string, weak-span}
 use Rattle.rules.proofs.Passing.{restricted}
-use Rattle.rules.proofs.Runs.{run, kept}
+use Rattle.rules.specs.Spans.{run}
+use Rattle.rules.proofs.Runs.{kept}
 use Rattle.rules.proofs.Sequences.{hasElement}
-use Rattle.rules.proofs.Spans.{Span, span-whole}
+use Rattle.rules.specs.Spans.{Span}
+use Rattle.rules.proofs.Spans.{span-whole}
 use Rattle.rules.proofs.Stripping.{notWhitespace}
 use Rattle.alone.specs.Alone.{Blank}
 use Rattle.marks.specs.Marks.{attributesIn}

@@ -14,7 +14,7 @@ use Rattle.instance.specs.Elements.{isElement}
 use Rattle.restrictions.specs.Schema.{SchemaPasses}
 use Rattle.rules.specs.Rules.{NotMatchBy}
 use Rattle.rules.specs.Job.{lookups}
-use Rattle.rules.proofs.Inversion.{Paired}
+use Rattle.rules.specs.Spans.{Paired}
 use Rattle.marks.specs.Given.{pairEntry}
 
 -- strings, schema and instance have no fault of codes 1 to 10

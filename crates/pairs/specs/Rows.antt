@@ -13,9 +13,9 @@ use Rattle.instance.specs.Width.{maxWidth}
 use Rattle.sets.specs.Bits.{bit}
 use Rattle.rules.specs.Rules.{OkAsChildren, WeakMatch, NotMatchBy}
 use Rattle.rules.specs.Job.{lookups}
-use Rattle.rules.proofs.Occurrences.{CleanAt}
-use Rattle.rules.proofs.Repeats.{Distinct}
-use Rattle.rules.proofs.Spans.{Span}
+use Rattle.rules.specs.Spans.{CleanAt}
+use Rattle.rules.specs.Spans.{Distinct}
+use Rattle.rules.specs.Spans.{Span}
 use Rattle.alone.specs.Alone.{Filled}
 use Rattle.marks.specs.Marks.{attributesIn}
 use Rattle.marks.specs.Given.{itemAt, pairEntry, Given}

@@ -19,8 +19,9 @@ use Rattle.sequences.specs.Content.{HasType, emptyType, complexType, simpleType
 use Rattle.restrictions.specs.Schema.{SchemaPasses}
 use Rattle.sequences.proofs.Types.{pair-kind}
 use Rattle.restrictions.proofs.Typed.{grouped, has-content-type}
-use Rattle.rules.proofs.Reach.{isSimple, takesAny}
-use Rattle.rules.proofs.RowPatterns.{Sides, Makes, makes-empty, makes-notAllowed, makes-text, makes-data, makes-except, makes-value, makes-attribute, makes-ref, makes-oneOrMore, makes-choice, makes-group, makes-interleave, makes-none}
+use Rattle.rules.specs.Reach.{Role, simple, itemBy, isSimple, takesAny}
+use Rattle.rules.proofs.RowPatterns.{Sides, Makes}
+use Rattle.rules.proofs.KindTests.{HasRole, role-strings, role-string, role-attribute, role-element, role-sharing, role-another, has-role}
 
 -- the least content type that a row of kind k may have
 abbrev pub leastType : ℕ → ℕ
@@ -79,28 +80,21 @@ type-inside {s} {p} (within {q = q} o i h) t =
 pub occurs-least : {s : List ℕ} {p r c : ℕ} → Occurs s r p → HasType s p c → leastType (kindOf s r) ≤ c
 occurs-least o t = let u = type-inside o t in omega (arith, type-least (u .1))
 
--- the least type of a row by its pattern
-least-made : {k a b : ℕ} {x : Pattern} → Makes k a b x → cond (isSimple x) simpleType (cond (takesAny x) complexType emptyType) ≤ leastType k
-least-made (makes-empty e) = omega arith
-least-made (makes-notAllowed e) = omega arith
-least-made (makes-text e) = rw e (omega arith)
-least-made (makes-data e f) = rw e (omega arith)
-least-made (makes-except e f) = rw e (omega arith)
-least-made (makes-value e) = rw e (omega arith)
-least-made (makes-attribute e) = omega arith
-least-made (makes-ref e) = rw e (omega arith)
-least-made (makes-oneOrMore e) = omega arith
-least-made (makes-choice e) = omega arith
-least-made (makes-group e) = omega arith
-least-made (makes-interleave e) = omega arith
-least-made (makes-none n) = omega arith
+-- the least type of a row by its role
+least-role : {k a : ℕ} {r : Role} → HasRole k a r → cond (simple r) simpleType (cond (itemBy r) complexType emptyType) ≤ leastType k
+least-role (role-strings e) = rw e (omega arith)
+least-role (role-string e) = rw e (omega arith)
+least-role (role-attribute e) = omega arith
+least-role (role-element e) = rw e (omega arith)
+least-role (role-sharing e) = omega arith
+least-role role-another = omega arith
 
 module _ {k a b : ℕ} (x : Pattern) (m : Makes k a b x) where
   pub simple-least : isSimple x ≡ true → simpleType ≤ leastType k
-  simple-least e = rw e at (least-made m)
+  simple-least e = rw e at (least-role (has-role m))
 
   pub any-least : takesAny x ≡ true → complexType ≤ leastType k
-  any-least e = go (isSimple x) (least-made m)
+  any-least e = go (isSimple x) (least-role (has-role m))
     where
       go : (b : Bool) → cond b simpleType (cond (takesAny x) complexType emptyType) ≤ leastType k → complexType ≤ leastType k
       go true h = omega arith

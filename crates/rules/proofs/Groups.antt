@@ -12,11 +12,12 @@ use Rattle.rules.specs.Rules.{Match}
 use Rattle.rules.proofs.Booleans.{_∩_, _∖_, or-left, or-right, is-false, both-parts, first-part, second-part}
 use Rattle.rules.proofs.Interleavings.{shuffle, interleaved, swap, among-first, run-shuffle, shuffle-run}
 use Rattle.rules.proofs.Inversion.{cast}
-use Rattle.rules.proofs.Occurrences.{CleanAt, clean-run, named, taken}
-use Rattle.rules.proofs.Reach.{Reaches, namesAttribute, takes}
-use Rattle.rules.proofs.Restricted.{Restricted, PairRestricted}
+use Rattle.rules.specs.Spans.{CleanAt, Span}
+use Rattle.rules.proofs.Occurrences.{clean-run, named, taken}
+use Rattle.rules.specs.Reach.{Reaches, namesAttribute, takes}
+use Rattle.rules.specs.Restricted.{Restricted, PairRestricted}
 use Rattle.rules.proofs.Runs.{run-join, run-split}
-use Rattle.rules.proofs.Spans.{Span, by-kind}
+use Rattle.rules.proofs.Spans.{by-kind}
 
 -- a test tells which members of a set have a property
 abbrev pub Tells : (ℕ → Bool) → (ℕ → Bool) → (ℕ → Type 0) → Type 0

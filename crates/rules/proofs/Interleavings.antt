@@ -7,7 +7,8 @@ use mathlib.Core.Logic.{_⊎_, inl, inr}
 use Rattle.rules.specs.Items.{Item}
 use Rattle.rules.specs.Rules.{Interleaves, interleaves-1, interleaves-2, interleaves-3}
 use Rattle.rules.proofs.Booleans.{_∩_, _∖_}
-use Rattle.rules.proofs.Runs.{added, run, kept}
+use Rattle.rules.specs.Spans.{added, run}
+use Rattle.rules.proofs.Runs.{kept}
 use Rattle.rules.proofs.Sequences.{Among, first, later}
 
 -- each item of m goes to l or to r

@@ -1,6 +1,6 @@
 -- One step of the rules of 9.3 backwards, by the kind of the pattern, and its converse.
 use Prim.Native.Nat.{ℕ}
-use mathlib.Core.Path.{_≡_, refl, sym}
+use mathlib.Core.Path.{_≡_, refl, sym, ap, _∙_, subst}
 use mathlib.Core.Bool.{true, false, true≢false}
 use mathlib.Core.List.{List, [], _∷_, _++_, append-nil}
 use mathlib.Core.Logic.{_⊎_, inl, inr, _↔_}
@@ -9,12 +9,24 @@ use Rattle.schema.specs.Views.{Pattern}
 use Rattle.schema.specs.Views as pattern
 use Rattle.rules.specs.Items.{Item, string, Attributes, none, only, _∪_, Lookups}
 use Rattle.rules.specs.Items as item
-use Rattle.rules.specs.Rules.{Interleaves, OkAsChildren, Ws, ws-empty, ws-string, Match, WeakMatch, choice-1, choice-2, group, empty, text-1, text-2, oneOrMore-1, oneOrMore-2, interleave, attribute, element, value, data-1, data-2}
+use Rattle.rules.specs.Rules.{Interleaves, Ws, ws-empty, ws-string, Match, WeakMatch, choice-1, choice-2, group, empty, text-1, text-2, oneOrMore-1, oneOrMore-2, interleave, attribute, element, value, data-1, data-2}
+use Rattle.rules.specs.Reach.{Role, oneString, roleOf, simple}
+use Rattle.rules.specs.Spans.{Paired}
 use Rattle.rules.proofs.Sequences.{hasElement, strings-append}
 
 -- the sequence of one string, which passes a test
 abbrev pub One : (List ℕ → Type 0) → List Item → Type 0
 One P m = (s : List ℕ) × (m ≡ string s ∷ []) × P s
+
+the-one : (P : List ℕ → Type 0) (s : List ℕ) → One P (string s ∷ []) → P s
+the-one P s o =
+    let e = o .1 in
+    let z : o .0 ≡ s = cc in
+    subst P z (o .2)
+
+-- two roles that differ
+no-role : {r : Role} → r ≡ oneString → simple r ≡ false → ⊥
+no-role e f = true≢false (sym (ap simple e) ∙ f)
 
 module _ (L : Lookups) (NotMatch : List ℕ → ℕ → Type 0) where
   pub cast : {a b : Attributes} {m n : List Item} {x : Pattern} → a ≡ b → m ≡ n → Match L NotMatch a m x → Match L NotMatch b n x
@@ -47,20 +59,13 @@ module _ (L : Lookups) (NotMatch : List ℕ → ℕ → Type 0) where
     pub named : L .inClass nc row ≡ true
     pub valued : WeakMatch L NotMatch none (string (L .value row) ∷ []) x
 
-  -- an element and a definition: the premises of (element)
-  pub record Paired (e d : ℕ) : Type 0 where
-    pub defined : L .isDefinition d ≡ true
-    pub ordered : OkAsChildren (L .children e)
-    pub named : L .inClass (L .nameClass d) e ≡ true
-    pub content : WeakMatch L NotMatch (L .attributes e) (L .children e) (L .pattern (L .content d))
-
   pub record ElementMatch (a : Attributes) (m : List Item) (d : ℕ) : Type 0 where
     pub row : ℕ
     pub ws₁ : List Item
     pub ws₂ : List Item
     pub set : a ≡ none
     pub sequence : m ≡ ws₁ ++ item.element row ∷ ws₂
-    pub paired : Paired row d
+    pub paired : Paired L NotMatch row d
     pub before : Ws L ws₁
     pub after : Ws L ws₂
 
@@ -123,15 +128,40 @@ module _ (L : Lookups) (NotMatch : List ℕ → ℕ → Type 0) where
   pub stepwise : {a : Attributes} {m : List Item} (x : Pattern) → Match L NotMatch a m x ↔ Step x a m
   stepwise x = (step, unstep x)
 
+  -- a pattern of one string matches no attributes and that string alone
+  one-string : {a : Attributes} {m : List Item} (x : Pattern) (P : List ℕ → Type 0) → Match L NotMatch a m x ↔ ((a ≡ none) × One P m) → ((s : List ℕ) → Match L NotMatch none (string s ∷ []) x ↔ P s)
+      → Match L NotMatch a m x ↔ ((a ≡ none) × One (λ s. Match L NotMatch none (string s ∷ []) x) m)
+  one-string x P f g = (
+    λ d. let t = f .0 d in (t .0, (t .1 .0, t .1 .1, g (t .1 .0) .1 (t .1 .2))),
+    λ t. f .1 (t .0, (t .1 .0, t .1 .1, g (t .1 .0) .0 (t .1 .2))),
+  )
+
+  pub string-alone : {a : Attributes} {m : List Item} (x : Pattern) → roleOf x ≡ oneString → Match L NotMatch a m x ↔ ((a ≡ none) × One (λ s. Match L NotMatch none (string s ∷ []) x) m)
+  string-alone (pattern.dataAll t) e = one-string (pattern.dataAll t) (λ s. Unit {0}) (stepwise (pattern.dataAll t)) (λ s. (λ d. tt, λ u. data-1))
+  string-alone (pattern.dataExcept t p) e =
+      one-string (pattern.dataExcept t p) (λ s. NotMatch s p) (stepwise (pattern.dataExcept t p)) (λ s. (λ d. the-one (λ s. NotMatch s p) s (step d .1), data-2))
+  string-alone (pattern.value t k) e =
+      one-string (pattern.value t k) (λ s. L .Equal t s (L .text k)) (stepwise (pattern.value t k)) (λ s. (λ d. the-one (λ s. L .Equal t s (L .text k)) s (step d .1), value))
+  string-alone pattern.empty e = absurd (no-role e refl)
+  string-alone pattern.notAllowed e = absurd (no-role e refl)
+  string-alone pattern.text e = absurd (no-role e refl)
+  string-alone (pattern.attribute nc p) e = absurd (no-role e refl)
+  string-alone (pattern.ref d) e = absurd (no-role e refl)
+  string-alone (pattern.oneOrMore p) e = absurd (no-role e refl)
+  string-alone (pattern.choice p q) e = absurd (no-role e refl)
+  string-alone (pattern.group p q) e = absurd (no-role e refl)
+  string-alone (pattern.interleave p q) e = absurd (no-role e refl)
+  string-alone pattern.noPattern e = absurd (no-role e refl)
+
   -- an element alone against a ref
   alone : (b a : List Item) (e x : ℕ) → Ws L b → item.element e ∷ [] ≡ b ++ item.element x ∷ a → x ≡ e
   alone b a e x ws-empty k = cc
   alone b a e x (ws-string w) k = cc
 
-  pub against : (e d : ℕ) → Match L NotMatch none (item.element e ∷ []) (pattern.ref d) ↔ Paired e d
+  pub against : (e d : ℕ) → Match L NotMatch none (item.element e ∷ []) (pattern.ref d) ↔ Paired L NotMatch e d
   against e d = (to, λ p. element e (p .defined) (p .ordered) (p .named) (p .content) ws-empty ws-empty)
     where
-      to : Match L NotMatch none (item.element e ∷ []) (pattern.ref d) → Paired e d
+      to : Match L NotMatch none (item.element e ∷ []) (pattern.ref d) → Paired L NotMatch e d
       to m =
           let s : ElementMatch none (item.element e ∷ []) d = step m in
           rw (alone (s .ws₁) (s .ws₂) e (s .row) (s .before) (s .sequence)) at (s .paired)

@@ -12,9 +12,7 @@ pub mod Padding
 pub mod Passing
 pub mod Paths
 pub mod Positions
-pub mod Reach
 pub mod Repeats
-pub mod Restricted
 pub mod RowPatterns
 pub mod RuleFacts
 pub mod Runs

@@ -13,25 +13,22 @@ use Rattle.rules.specs.Rules.{Ws, ws-empty, ws-string, Match, choice-1, 
 use Rattle.rules.proofs.Booleans.{or-either, and-both}
 use Rattle.rules.proofs.Interleavings.{shuffle, swap, among-first, among-either}
 use Rattle.rules.proofs.Positions.{among-run}
-use Rattle.rules.proofs.Reach.{repeated, choice-first, choice-second, group-first, group-second, interleave-first, interleave-second, Reaches, here, there, takesAny, takesString, namesAttribute, takes}
-use Rattle.rules.proofs.Runs.{run}
+use Rattle.rules.specs.Spans.{CleanAt, run}
+use Rattle.rules.specs.Reach.{Role, strings, oneString, anAttribute, anElement, sharing, another, roleOf, stringBy, itemBy, repeated, choice-first, choice-second, group-first, group-second, interleave-first, interleave-second, Reaches, here, there, takesAny, takesString, namesAttribute, takes}
 use Rattle.rules.proofs.Sequences.{Among, first, later, among-append, among-left, among-right, among-one}
 
 module _ (L : Lookups) where
-  -- no string of whitespace stands beside an element: in a sequence, and at a set of positions
+  -- no string of whitespace stands beside an element
   abbrev pub Clean : List Item → Type 0
   Clean m = (e : ℕ) (s : List ℕ) → Among (item.element e) m → Among (string s) m → L .whitespace s ≡ false
 
-  abbrev pub CleanAt : (ℕ → Item) → (ℕ → Bool) → Type 0
-  CleanAt it K = (h k e : ℕ) (s : List ℕ) → K h ≡ true → it h ≡ item.element e → K k ≡ true → it k ≡ string s → L .whitespace s ≡ false
-
-  pub clean-run : (it : ℕ → Item) (K : ℕ → Bool) → CleanAt it K → (i n : ℕ) → Clean (run it K i n)
+  pub clean-run : (it : ℕ → Item) (K : ℕ → Bool) → CleanAt L it K → (i n : ℕ) → Clean (run it K i n)
   clean-run it K c i n e s a b =
       let h = among-run it K i n a in
       let k = among-run it K i n b in
       c (h .place) (k .place) e s (h .member) (h .item) (k .member) (k .item)
 
-  pub clean-part : (it : ℕ → Item) (K J : ℕ → Bool) → ((k : ℕ) → J k ≡ true → K k ≡ true) → CleanAt it K → CleanAt it J
+  pub clean-part : (it : ℕ → Item) (K J : ℕ → Bool) → ((k : ℕ) → J k ≡ true → K k ≡ true) → CleanAt L it K → CleanAt L it J
   clean-part it K J f c h k e s a x b y = c h k e s (f h a) x (f k b) y
 
   -- then nothing stands beside an element that a ref takes
@@ -112,17 +109,13 @@ module _ (L : Lookups) where
     takes-nothing {m = y ∷ m} d n =
         absurd (n (reached (λ y. takesAny) (λ y. Unit {0}) (λ s. any-string) (λ d e w v f n b a g y h. refl) d (λ y h. tt) y (first refl)))
       where
+        by-role : (r : Role) → stringBy r ≡ true → itemBy r ≡ true
+        by-role strings h = refl
+        by-role oneString h = refl
+        by-role (anAttribute nc) h = h
+        by-role (anElement d) h = refl
+        by-role sharing h = h
+        by-role another h = h
+
         any-string : (x : Pattern) → takesString x ≡ true → takesAny x ≡ true
-        any-string pattern.empty h = h
-        any-string pattern.notAllowed h = h
-        any-string pattern.text h = refl
-        any-string (pattern.dataAll t) h = refl
-        any-string (pattern.dataExcept t p) h = refl
-        any-string (pattern.value t k) h = refl
-        any-string (pattern.attribute nc p) h = h
-        any-string (pattern.ref d) h = refl
-        any-string (pattern.oneOrMore p) h = h
-        any-string (pattern.choice p₁ p₂) h = h
-        any-string (pattern.group p₁ p₂) h = h
-        any-string (pattern.interleave p₁ p₂) h = h
-        any-string pattern.noPattern h = h
+        any-string x h = by-role (roleOf x) h

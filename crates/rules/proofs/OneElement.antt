@@ -9,12 +9,11 @@ use Rattle.schema.specs.Views.{Pattern}
 use Rattle.rules.specs.Items.{Item, element, string, Attributes, Lookups}
 use Rattle.rules.specs.Rules.{OkAsChildren, ok-empty, ok-element, ok-last, ok-string, ws-empty, ws-string, Match, WeakMatch, weak-match-1, weak-match-2, weak-match-3}
 use Rattle.rules.proofs.Inversion.{One}
-use Rattle.rules.proofs.Occurrences.{CleanAt}
+use Rattle.rules.specs.Spans.{CleanAt, run, Span}
 use Rattle.rules.proofs.Padding.{unstrip}
-use Rattle.rules.proofs.Restricted.{Restricted}
-use Rattle.rules.proofs.Runs.{run}
+use Rattle.rules.specs.Restricted.{Restricted}
 use Rattle.rules.proofs.Sequences.{hasElement}
-use Rattle.rules.proofs.Spans.{Span, span-whole}
+use Rattle.rules.proofs.Spans.{span-whole}
 use Rattle.rules.proofs.Stripping.{notWhitespace, stripped, strip}
 
 -- children with no element among them

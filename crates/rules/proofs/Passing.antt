@@ -5,6 +5,7 @@ use mathlib.Core.Bool.{true, false≢true}
 use mathlib.Core.List.{List}
 use Prim.Native.Nat.{ℕ, _≤_}
 use native.Mathlib.Omega.{arith}
+use Rattle.tables.specs.Tables.{Tables}
 use Rattle.schema.specs.Kinds as kind
 use Rattle.schema.specs.Rows.{rowsOf, kindOf, aOf, shapeOf, sortOf, isElement, childA}
 use Rattle.schema.specs.Relations.{Occurs}
@@ -23,16 +24,22 @@ use Rattle.restrictions.proofs.Passes.{attributes-apart, elements-apart, texts-
 use Rattle.restrictions.proofs.Passes as passes
 use Rattle.rules.specs.Items.{Item, element, string, Lookups}
 use Rattle.rules.specs.Job.{lookups}
-use Rattle.rules.proofs.Reach.{Part, operand, Reaches, isSimple, takesAny, takesString, namesAttribute, namesElement, takes, repeated}
-use Rattle.rules.proofs.Restricted.{Flat, PairRestricted, Restricted}
+use Rattle.rules.specs.Reach.{Part, operand, Reaches, isSimple, takesAny, takesString, namesAttribute, namesElement, takes, repeated}
+use Rattle.rules.specs.Restricted.{Flat, PairRestricted, Restricted}
 use Rattle.rules.proofs.RowPatterns.{row-makes, from-oneOrMore, from-interleave, has-kind, Sides, group-sides, interleave-sides, repeated-sides, part-child, reached-row, inside-row, occurs-below, child-below}
 use Rattle.rules.proofs.ContentTypes.{leastType, occurs-least, simple-least, any-least, Grouped, pair-grouped, repeated-type}
 use Rattle.rules.proofs.KindTests.{attribute-made, ref-made, pair-made, string-kind}
 use Rattle.rules.proofs.Paths.{excepts-plain}
 
-module _ {strings : ℕ} {s : List ℕ} (pass : SchemaPasses strings s) (bytes ends t : List ℕ) where
+module _ {strings : ℕ} (J : Tables) (pass : SchemaPasses strings (J .schema)) where
+  abbrev s : List ℕ
+  s = J .schema
+
+  abbrev t : List ℕ
+  t = J .instance
+
   abbrev L : Lookups
-  L = lookups bytes ends s t
+  L = lookups J
 
   -- the class of an attribute, and that of the definition that a ref names, are children
   attribute-class : (x u : ℕ) → namesAttribute L u (patternOf s x) ≡ true → (kindOf s x ≡ kind.attribute) × (inClass s (node.aOf t u) (node.bOf t u) (childA s x) ≡ true)
@@ -52,12 +59,12 @@ module _ {strings : ℕ} {s : List ℕ} (pass : SchemaPasses strings s) (bytes e
   -- what a pattern reaches shows in its content type
   simple-type : {p c : ℕ} → HasType s p c → Reaches L isSimple (patternOf s p) → simpleType ≤ c
   simple-type {p} w h =
-      let r = reached-row (pass .rows) bytes ends t p h in
+      let r = reached-row J (pass .rows) p h in
       omega (arith, simple-least (patternOf s (r .0)) (row-makes s (r .0) refl) (r .2), occurs-least (r .1) w)
 
   any-type : {p c : ℕ} → HasType s p c → Reaches L takesAny (patternOf s p) → complexType ≤ c
   any-type {p} w h =
-      let r = reached-row (pass .rows) bytes ends t p h in
+      let r = reached-row J (pass .rows) p h in
       omega (arith, any-least (patternOf s (r .0)) (row-makes s (r .0) refl) (r .2), occurs-least (r .1) w)
 
   -- the sides of a group or interleave
@@ -73,8 +80,8 @@ module _ {strings : ℕ} {s : List ℕ} (pass : SchemaPasses strings s) (bytes e
 
       apart : (u : ℕ) → Reaches L (namesAttribute L u) (patternOf s p₁) → ¬ Reaches L (namesAttribute L u) (patternOf s p₂)
       apart u h i =
-          let x = reached-row (pass .rows) bytes ends t p₁ h in
-          let y = reached-row (pass .rows) bytes ends t p₂ i in
+          let x = reached-row J (pass .rows) p₁ h in
+          let y = reached-row J (pass .rows) p₂ i in
           let a = attribute-class (x .0) u (x .2) in
           let b = attribute-class (y .0) u (y .2) in
           attributes-apart pass p (x .0) (y .0) (node.aOf t u) (node.bOf t u) (sides .is-pair) (rw (sides .first) (x .1)) (a .0) (rw (sides .second) (y .1)) (b .0) (a .1) (b .1)
@@ -95,10 +102,10 @@ module _ {strings : ℕ} {s : List ℕ} (pass : SchemaPasses strings s) (bytes e
   strings-apart {p} {p₁} {p₂} e sides h i = go (text-or-simple (x .0) (x .2)) (text-or-simple (y .0) (y .2))
     where
       x : (r : ℕ) × Occurs s r p₁ × (takesString (patternOf s r) ≡ true)
-      x = reached-row (pass .rows) bytes ends t p₁ h
+      x = reached-row J (pass .rows) p₁ h
 
       y : (r : ℕ) × Occurs s r p₂ × (takesString (patternOf s r) ≡ true)
-      y = reached-row (pass .rows) bytes ends t p₂ i
+      y = reached-row J (pass .rows) p₂ i
 
       grouped : Grouped s p₁ p₂
       grouped = pair-grouped pass p p₁ p₂ sides
@@ -117,8 +124,8 @@ module _ {strings : ℕ} {s : List ℕ} (pass : SchemaPasses strings s) (bytes e
   -- an item goes to one side of an interleave (10.5)
   items-apart : {p p₁ p₂ : ℕ} → kindOf s p ≡ kind.interleave → Sides s p p₁ p₂ → (y : Item) → Reaches L (takes L y) (patternOf s p₁) → ¬ Reaches L (takes L y) (patternOf s p₂)
   items-apart {p} {p₁} {p₂} e sides (element u) h i =
-      let x = reached-row (pass .rows) bytes ends t p₁ h in
-      let y = reached-row (pass .rows) bytes ends t p₂ i in
+      let x = reached-row J (pass .rows) p₁ h in
+      let y = reached-row J (pass .rows) p₂ i in
       let a = ref-class (x .0) u (x .2) in
       let b = ref-class (y .0) u (y .2) in
       elements-apart pass p (x .0) (y .0) (node.aOf t u) (node.bOf t u) e (rw (sides .first) (x .1)) (a .0) (rw (sides .second) (y .1)) (b .0) (a .1) (b .1)
@@ -129,9 +136,9 @@ module _ {strings : ℕ} {s : List ℕ} (pass : SchemaPasses strings s) (bytes e
   flat p q e y inside pair u h =
       let m = from-oneOrMore (row-makes s p e) in
       let d = part-child (pass .rows) p (subst (Part q) (sym e) (operand repeated)) in
-      let x = inside-row (pass .rows) bytes ends t q inside in
+      let x = inside-row J (pass .rows) q inside in
       let g = pair-made (row-makes s (x .0) (x .2)) pair in
-      let z = reached-row (pass .rows) bytes ends t (x .0) (subst (Reaches L (namesAttribute L u)) (sym (x .2)) h) in
+      let z = reached-row J (pass .rows) (x .0) (subst (Reaches L (namesAttribute L u)) (sym (x .2)) h) in
       let a = attribute-class (z .0) u (z .2) in
       passes.repeats-flat pass (z .0) (x .0) p (m .0) (child-below d (x .1)) g (⊎-elim (λ f. absurd (itself (x .0) (z .0) f g (a .0))) (λ b. b) (occurs-below (z .1))) (a .0)
     where
@@ -151,7 +158,7 @@ module _ {strings : ℕ} {s : List ℕ} (pass : SchemaPasses strings s) (bytes e
   unfolding patternBy
   past p h = rw (kind-past s p (whole-rows (right-size (pass .rows))) h)
 
-  pub restricted : Restricted (lookups bytes ends s t)
+  pub restricted : Restricted (lookups J)
   restricted = record {
     bounded = past;
     falls = λ p q i. child-less (part-child (pass .rows) p i);
@@ -161,5 +168,5 @@ module _ {strings : ℕ} {s : List ℕ} (pass : SchemaPasses strings s) (bytes e
     items = λ p p₁ p₂ e. items-apart (from-interleave (row-makes s p e) .0) (interleave-sides (pass .rows) p e);
     repeats-flat = flat;
     repeats-sequenced = not-simple;
-    excepts = λ p d q e. excepts-plain pass bytes ends t p d q e;
+    excepts = λ p d q e. excepts-plain J pass p d q e;
   }

@@ -5,6 +5,7 @@ use mathlib.Core.Bool.{Bool, true, false, true≢false}
 use mathlib.Core.List.{List}
 use Prim.Native.Nat.{ℕ, zero, suc, _-_, _<_}
 use native.Mathlib.Omega.{arith}
+use Rattle.tables.specs.Tables.{Tables}
 use Rattle.schema.specs.Kinds as kind
 use Rattle.schema.specs.Rows.{rowsOf, kindOf, aOf, shapeOf, sortOf, isPattern}
 use Rattle.schema.specs.RowRule.{no-row}
@@ -20,8 +21,8 @@ use Rattle.restrictions.specs.Schema.{SchemaPasses}
 use Rattle.restrictions.proofs.Passes.{except-plain}
 use Rattle.rules.specs.Items.{Lookups}
 use Rattle.rules.specs.Job.{lookups, startRow}
-use Rattle.rules.proofs.Reach.{Part, operand, choice-first, choice-second, of-except}
-use Rattle.rules.proofs.Restricted.{Plain, plain-notAllowed, plain-value, plain-data, plain-except, plain-choice, Starts, starts-notAllowed, starts-ref, starts-choice}
+use Rattle.rules.specs.Reach.{Part, operand, choice-first, choice-second, of-except}
+use Rattle.rules.specs.Restricted.{Plain, plain-notAllowed, plain-value, plain-data, plain-except, plain-choice, Starts, starts-notAllowed, starts-ref, starts-choice}
 use Rattle.rules.proofs.RowPatterns.{has-kind, Makes, makes-empty, makes-notAllowed, makes-text, makes-data, makes-except, makes-value, makes-attribute, makes-ref, makes-oneOrMore, makes-choice, makes-group, makes-interleave, makes-none, row-makes, from-except, part-child, part-pattern}
 
 module _ (L : Lookups) where
@@ -89,17 +90,17 @@ module _ {strings : ℕ} {s : List ℕ} (pass : SchemaPasses strings s) where
       go true f = absurd (pass .paths r (in-start (rowsOf s - 1) f start-kind b))
       go false f = refl
 
-  module _ (bytes ends t : List ℕ) where
-    pub excepts-plain : (p d q : ℕ) → patternOf s p ≡ dataExcept d q → Plain (lookups bytes ends s t) (patternOf s q)
-    excepts-plain p d q e =
-        let m = from-except (row-makes s p e) in
-        let part : Part q (patternOf s p) = subst (Part q) (sym e) of-except in
-        below-all (λ (r : ℕ). Plain (lookups bytes ends s t) (patternOf s r)) p
-        (λ r b i below. plain-made (lookups bytes ends s t) (row-makes s r refl) (pattern-kind (kindOf s r) i) (except-plain pass r p (m .0) b) below)
-        (suc q) q (omega arith) (child (part-child (pass .rows) p part)) (part-pattern (pass .rows) p part)
+module _ {strings : ℕ} (J : Tables) (pass : SchemaPasses strings (J .schema)) where
+  pub excepts-plain : (p d q : ℕ) → patternOf (J .schema) p ≡ dataExcept d q → Plain (lookups J) (patternOf (J .schema) q)
+  excepts-plain p d q e =
+      let m = from-except (row-makes (J .schema) p e) in
+      let part : Part q (patternOf (J .schema) p) = subst (Part q) (sym e) of-except in
+      below-all pass (λ (r : ℕ). Plain (lookups J) (patternOf (J .schema) r)) p
+      (λ r b i below. plain-made (lookups J) (row-makes (J .schema) r refl) (pattern-kind (kindOf (J .schema) r) i) (except-plain pass r p (m .0) b) below)
+      (suc q) q (omega arith) (child (part-child (pass .rows) p part)) (part-pattern (pass .rows) p part)
 
-    pub start-starts : Starts (lookups bytes ends s t) (patternOf s (aOf s (startRow bytes ends s t)))
-    start-starts =
-        below-all (λ (r : ℕ). Starts (lookups bytes ends s t) (patternOf s r)) (rowsOf s - 1)
-        (λ r b i below. starts-made (lookups bytes ends s t) (row-makes s r refl) (pattern-kind (kindOf s r) i) (in-start-right r b) below)
-        (suc (aOf s (rowsOf s - 1))) (aOf s (rowsOf s - 1)) (omega arith) (child start-child) (start-pattern .1)
+  pub start-starts : Starts (lookups J) (patternOf (J .schema) (aOf (J .schema) (startRow J)))
+  start-starts =
+      below-all pass (λ (r : ℕ). Starts (lookups J) (patternOf (J .schema) r)) (rowsOf (J .schema) - 1)
+      (λ r b i below. starts-made (lookups J) (row-makes (J .schema) r refl) (pattern-kind (kindOf (J .schema) r) i) (in-start-right pass r b) below)
+      (suc (aOf (J .schema) (rowsOf (J .schema) - 1))) (aOf (J .schema) (rowsOf (J .schema) - 1)) (omega arith) (child (start-child pass)) (start-pattern pass .1)

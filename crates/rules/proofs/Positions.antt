@@ -7,7 +7,8 @@ use mathlib.Core.Logic.{_↔_}
 use native.Mathlib.Omega.{arith}
 use Rattle.rules.specs.Items.{Item, element}
 use Rattle.rules.proofs.Booleans.{is-false}
-use Rattle.rules.proofs.Runs.{added, run, run-add}
+use Rattle.rules.specs.Spans.{added, run}
+use Rattle.rules.proofs.Runs.{run-add}
 use Rattle.rules.proofs.Sequences.{Among, first, later, among-right, nothing-among, hasElement, element-among, among-element}
 
 not-nil : (l : List Item) (x : Item) (r : List Item) → ¬ (l ++ x ∷ r ≡ [])

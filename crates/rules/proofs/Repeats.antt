@@ -15,17 +15,13 @@ use Rattle.rules.specs.Rules.{Disjoint, Match, choice-1, choice-2, group
 use Rattle.rules.proofs.Booleans.{_∖_, or-either, and-left, no-member, ∖-only, one-and-rest, none-left, none-right}
 use Rattle.rules.proofs.Inversion.{cast}
 use Rattle.rules.proofs.Occurrences.{named}
-use Rattle.rules.proofs.Reach.{Operand, repeated, choice-first, choice-second, Reaches, itself, down, namesAttribute}
-use Rattle.rules.proofs.Restricted.{Restricted, Flat}
-use Rattle.rules.proofs.Runs.{run, run-join, run-split}
-use Rattle.rules.proofs.Spans.{Span}
+use Rattle.rules.specs.Reach.{Operand, repeated, choice-first, choice-second, Reaches, itself, down, namesAttribute}
+use Rattle.rules.specs.Restricted.{Restricted, Flat}
+use Rattle.rules.specs.Spans.{run, Distinct, Span}
+use Rattle.rules.proofs.Runs.{run-join, run-split}
 
 module _ (L : Lookups) where
-  -- no two attributes of a set have one name
-  abbrev pub Distinct : Attributes → Type 0
-  Distinct A = (x y : ℕ) → A x ≡ true → A y ≡ true → L .SameName x y → x ≡ y
-
-  pub distinct-part : (A B : Attributes) → ((x : ℕ) → B x ≡ true → A x ≡ true) → Distinct A → Distinct B
+  pub distinct-part : (A B : Attributes) → ((x : ℕ) → B x ≡ true → A x ≡ true) → Distinct L A → Distinct L B
   distinct-part A B f d x y h k = d x y (f x h) (f y k)
 
   flat-operand : {x : Pattern} (r : ℕ) → Operand r x → Flat L x → Flat L (L .pattern r)
@@ -96,7 +92,7 @@ module _ (L : Lookups) where
       Singles A = (x : ℕ) → A x ≡ true → Match L NotMatch (only x) [] (L .pattern q)
 
       -- one attribute besides others, if there are any
-      besides : {m : List Item} (A : Attributes) (y : ℕ) → A y ≡ true → Distinct A → Singles A → NoneOr (pattern.oneOrMore q) m
+      besides : {m : List Item} (A : Attributes) (y : ℕ) → A y ≡ true → Distinct L A → Singles A → NoneOr (pattern.oneOrMore q) m
           → (A ∖ only y ≡ none) ⊎ Match L NotMatch (A ∖ only y) m (pattern.oneOrMore q) → Match L NotMatch A m (pattern.oneOrMore q)
       besides A y h u s b (inr d) = cast L NotMatch (one-and-rest A y h) refl (oneOrMore-2 (s y h) d disjoint)
         where
@@ -110,7 +106,7 @@ module _ (L : Lookups) where
 
       -- of a set below N
       abbrev Joined : List Item → ℕ → Attributes → Type 0
-      Joined m N A = ((x : ℕ) → A x ≡ true → x < N) → Distinct A → Singles A → (A ≡ none) ⊎ Match L NotMatch A m (pattern.oneOrMore q)
+      Joined m N A = ((x : ℕ) → A x ≡ true → x < N) → Distinct L A → Singles A → (A ≡ none) ⊎ Match L NotMatch A m (pattern.oneOrMore q)
 
       joined : {m : List Item} → NoneOr (pattern.oneOrMore q) m → (N : ℕ) (A : Attributes) → Joined m N A
       joined b zero A l u s = inl (no-member A (λ x h. let z = l x h in omega arith))
@@ -147,7 +143,7 @@ module _ (L : Lookups) where
         pub single : (x : ℕ) → A x ≡ true → Match L NotMatch (only x) [] (L .pattern q)
         pub items : (run it K i (j - i) ≡ []) ⊎ Plus (Span L NotMatch none it K q) i j
 
-      pub span-oneOrMore-attributes : Restricted L → (A : Attributes) (N x₀ : ℕ) → ((x : ℕ) → A x ≡ true → x < N) → A x₀ ≡ true → Distinct A → (p i j : ℕ) → L .pattern p ≡ pattern.oneOrMore q
+      pub span-oneOrMore-attributes : Restricted L → (A : Attributes) (N x₀ : ℕ) → ((x : ℕ) → A x ≡ true → x < N) → A x₀ ≡ true → Distinct L A → (p i j : ℕ) → L .pattern p ≡ pattern.oneOrMore q
           → Span L NotMatch A it K p i j ↔ Repeated A i j
       span-oneOrMore-attributes R A N x₀ bound some distinct p i j e = (to, from)
         where

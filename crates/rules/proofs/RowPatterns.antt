@@ -7,6 +7,7 @@ use Prim.Native.Nat.{ℕ, _<_}
 use native.Mathlib.Omega.{arith}
 use lib.Dec.{eqb}
 use borrow.Author.Tests.{eqb-true, eqb-false}
+use Rattle.tables.specs.Tables.{Tables}
 use Rattle.schema.specs.Kinds as kind
 use Rattle.schema.specs.Rows.{rowsOf, kindOf, aOf, bOf, shapeOf, sortOf, isPattern, childA, childB}
 use Rattle.schema.specs.RowRule.{RowsRight}
@@ -17,7 +18,7 @@ use Rattle.schema.proofs.Fields.{pattern-a, pattern-b, pattern-or-none, Pattern
 use Rattle.schema.proofs.RowLaws.{right-size, in-table}
 use Rattle.places.specs.Paths.{isPair}
 use Rattle.places.specs.Places.{holdsWhole}
-use Rattle.rules.proofs.Reach.{Operand, repeated, choice-first, choice-second, group-first, group-second, interleave-first, interleave-second, Part, operand, of-attribute, of-except, Reaches, here, there, Within, itself, down}
+use Rattle.rules.specs.Reach.{Operand, repeated, choice-first, choice-second, group-first, group-second, interleave-first, interleave-second, Part, operand, of-attribute, of-except, Reaches, here, there, Within, itself, down}
 use Rattle.rules.specs.Job.{lookups}
 
 -- kind k and fields a and b make a pattern
@@ -192,25 +193,25 @@ module _ {strings : ℕ} {s : List ℕ} (right : RowsRight strings s) where
   pub operand-occurs : {p r x : ℕ} → Operand r (patternOf s p) → Occurs s x r → Occurs s x p
   operand-occurs {p} i o = within (operand-connective i (row-makes s p refl)) (part-child p (operand i)) o
 
-module _ {strings : ℕ} {s : List ℕ} (right : RowsRight strings s) (bytes ends t : List ℕ) where
-  reached : {test : Pattern → Bool} {x : Pattern} → Reaches (lookups bytes ends s t) test x → (p : ℕ) → patternOf s p ≡ x → (r : ℕ) × Occurs s r p × (test (patternOf s r) ≡ true)
+module _ {strings : ℕ} (J : Tables) (right : RowsRight strings (J .schema)) where
+  reached : {test : Pattern → Bool} {x : Pattern} → Reaches (lookups J) test x → (p : ℕ) → patternOf (J .schema) p ≡ x → (r : ℕ) × Occurs (J .schema) r p × (test (patternOf (J .schema) r) ≡ true)
   reached {test} (here h) p e = (p, itself, subst (λ (x : Pattern). test x ≡ true) (sym e) h)
   reached (there r i h) p e =
       let o = reached h r refl in
       (o .0, operand-occurs right (subst (Operand r) (sym e) i) (o .1), o .2)
 
   -- a pattern that p reaches is that of a row that occurs in p
-  pub reached-row : {test : Pattern → Bool} (p : ℕ) → Reaches (lookups bytes ends s t) test (patternOf s p) → (r : ℕ) × Occurs s r p × (test (patternOf s r) ≡ true)
+  pub reached-row : {test : Pattern → Bool} (p : ℕ) → Reaches (lookups J) test (patternOf (J .schema) p) → (r : ℕ) × Occurs (J .schema) r p × (test (patternOf (J .schema) r) ≡ true)
   reached-row p h = reached h p refl
 
-  inside : {x y : Pattern} → Within (lookups bytes ends s t) x y → (p : ℕ) → patternOf s p ≡ x → (r : ℕ) × Occurs s r p × (patternOf s r ≡ y)
+  inside : {x y : Pattern} → Within (lookups J) x y → (p : ℕ) → patternOf (J .schema) p ≡ x → (r : ℕ) × Occurs (J .schema) r p × (patternOf (J .schema) r ≡ y)
   inside itself p e = (p, itself, e)
   inside (down r i h) p e =
       let o = inside h r refl in
       (o .0, operand-occurs right (subst (Operand r) (sym e) i) (o .1), o .2)
 
   -- the same of a pattern within another
-  pub inside-row : {y : Pattern} (p : ℕ) → Within (lookups bytes ends s t) (patternOf s p) y → (r : ℕ) × Occurs s r p × (patternOf s r ≡ y)
+  pub inside-row : {y : Pattern} (p : ℕ) → Within (lookups J) (patternOf (J .schema) p) y → (r : ℕ) × Occurs (J .schema) r p × (patternOf (J .schema) r ≡ y)
   inside-row p h = inside h p refl
 
 -- what is a child of p, or below one, is below p

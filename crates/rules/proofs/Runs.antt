@@ -6,17 +6,9 @@ use mathlib.Core.List.{List, [], _∷_, _++_, nil≢cons, head-eq-of-cons-eq, ta
 use native.Mathlib.Nat.{zero-add, suc-add, add-zero, add-suc}
 use native.Mathlib.Omega.{arith}
 use lib.ListN.{length, getD}
+use Rattle.rules.specs.Spans.{added, run}
 
 module _ {A : Type 0} where
-  -- a list, with x before it where the test says so
-  abbrev pub added : Bool → A → List A → List A
-  added true x l = x ∷ l
-  added false x l = l
-
-  unfoldable pub run : (ℕ → A) → (ℕ → Bool) → ℕ → ℕ → List A
-  run it K i zero = []
-  run it K i (suc n) = added (K i) (it i) (run it K (suc i) n)
-
   -- the members of a list that pass a test
   unfoldable pub kept : (A → Bool) → List A → List A
   kept P [] = []

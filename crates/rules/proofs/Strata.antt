@@ -9,8 +9,8 @@ use Rattle.tables.proofs.Numbers.{not-less}
 use Rattle.schema.specs.Views.{Pattern, dataExcept, noPattern}
 use Rattle.rules.specs.Items.{Item, string, Attributes, none, Lookups}
 use Rattle.rules.specs.Rules.{Match, choice-1, choice-2, value, data-1, data-2, NotMatchBy, Matches}
-use Rattle.rules.proofs.Reach.{Part, operand, choice-first, choice-second, of-except}
-use Rattle.rules.proofs.Restricted.{Restricted, Plain, plain-value, plain-data, plain-except, plain-choice}
+use Rattle.rules.specs.Reach.{Part, operand, choice-first, choice-second, of-except}
+use Rattle.rules.specs.Restricted.{Restricted, Plain, plain-value, plain-data, plain-except, plain-choice}
 
 module _ {L : Lookups} (R : Restricted L) where
   -- a match of a plain pattern whose parts are below b uses negative premises at plain rows below b alone

@@ -12,9 +12,10 @@ use Rattle.rules.specs.Rules.{Ws, ws-empty, ws-string, Match, choice-1, 
 use Rattle.rules.proofs.Interleavings.{Shuffle, done, left, right, shuffle, interleaved, kept-shuffle}
 use Rattle.rules.proofs.Inversion.{cast, step, stepwise}
 use Rattle.rules.proofs.Occurrences.{takes-nothing}
-use Rattle.rules.proofs.Reach.{repeated, choice-first, choice-second, group-first, group-second, interleave-first, interleave-second, Reaches, here, there, isSimple}
-use Rattle.rules.proofs.Restricted.{Restricted, PairRestricted}
-use Rattle.rules.proofs.Runs.{added, kept, kept-append}
+use Rattle.rules.specs.Reach.{repeated, choice-first, choice-second, group-first, group-second, interleave-first, interleave-second, Reaches, here, there, isSimple}
+use Rattle.rules.specs.Restricted.{Restricted, PairRestricted}
+use Rattle.rules.specs.Spans.{added}
+use Rattle.rules.proofs.Runs.{kept, kept-append}
 use Rattle.rules.proofs.Sequences.{hasElement, strings-append}
 
 strings-shuffle : {m l r : List Item} → Shuffle m l r → hasElement l ≡ false → hasElement r ≡ false → hasElement m ≡ false

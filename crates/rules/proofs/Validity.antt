@@ -5,6 +5,7 @@ use mathlib.Core.Bool.{false, false≢true}
 use mathlib.Core.List.{List, [], _∷_}
 use Prim.Native.Nat.{ℕ, _-_}
 use native.Mathlib.Omega.{arith}
+use Rattle.tables.specs.Tables.{Tables}
 use Rattle.schema.specs.Kinds as kind
 use Rattle.schema.specs.Rows.{rowsOf, kindOf, aOf, bOf, shapeOf, names}
 use Rattle.schema.specs.Relations.{Child, by-a, by-b, Below, child, deeper}
@@ -15,8 +16,8 @@ use Rattle.rules.specs.Items.{Item, element, Attributes, none, Lookups}
 use Rattle.rules.specs.Rules.{choice-1, choice-2, Matches, Proved}
 use Rattle.rules.specs.Rules as rule
 use Rattle.rules.specs.Job.{lookups, Valid, StartNames, by-ref}
-use Rattle.rules.proofs.Reach.{Part, operand, choice-first, choice-second}
-use Rattle.rules.proofs.Restricted.{Starts, starts-notAllowed, starts-ref, starts-choice}
+use Rattle.rules.specs.Reach.{Part, operand, choice-first, choice-second}
+use Rattle.rules.specs.Restricted.{Starts, starts-notAllowed, starts-ref, starts-choice}
 use Rattle.rules.proofs.RowPatterns.{row-makes, from-notAllowed, from-ref, from-choice, part-child}
 use Rattle.rules.proofs.Paths.{start-kind, start-child, start-starts}
 
@@ -40,12 +41,15 @@ module _ {s : List ℕ} {p q : ℕ} where
   child-side f g (by-a n h) = inl (sym h ∙ f)
   child-side f g (by-b n h) = inr (sym h ∙ g)
 
-module _ {strings : ℕ} {s : List ℕ} (pass : SchemaPasses strings s) (bytes ends t : List ℕ) where
+module _ {strings : ℕ} (J : Tables) (pass : SchemaPasses strings (J .schema)) where
+  abbrev s : List ℕ
+  s = J .schema
+
   abbrev L : Lookups
-  L = lookups bytes ends s t
+  L = lookups J
 
   -- what matches a pattern below start matches a ref that stands there
-  valid-to : {a : Attributes} {m : List Item} {x : Pattern} → Starts L x → (p : ℕ) → patternOf s p ≡ x → Below s p (rowsOf s - 1) → Matches L a m x → (d : ℕ) × StartNames bytes ends s t d × Matches L a m (ref d)
+  valid-to : {a : Attributes} {m : List Item} {x : Pattern} → Starts L x → (p : ℕ) → patternOf s p ≡ x → Below s p (rowsOf s - 1) → Matches L a m x → (d : ℕ) × StartNames J d × Matches L a m (ref d)
   valid-to (starts-ref {d = d}) p f b (rule.element e i o c w w₁ w₂) = let k = from-ref (row-makes s p f) in (d, by-ref p b (k .0) (k .1), rule.element e i o c w w₁ w₂)
   valid-to (starts-choice {p₁ = q} k₁ k₂) p f b (choice-1 m) = valid-to k₁ q refl (further b (part-child (pass .rows) p (subst (Part q) (sym f) (operand choice-first)))) m
   valid-to (starts-choice {p₂ = q} k₁ k₂) p f b (choice-2 m) = valid-to k₂ q refl (further b (part-child (pass .rows) p (subst (Part q) (sym f) (operand choice-second)))) m
@@ -68,15 +72,15 @@ module _ {strings : ℕ} {s : List ℕ} (pass : SchemaPasses strings s) (bytes e
         (child-side (i .1) (i .2) (c .1))
 
   -- start has one child
-  started : (e d : ℕ) → StartNames bytes ends s t d → Proved L e d → Matches L none (element e ∷ []) (patternOf s (aOf s (rowsOf s - 1)))
+  started : (e d : ℕ) → StartNames J d → Proved L e d → Matches L none (element e ∷ []) (patternOf s (aOf s (rowsOf s - 1)))
   unfolding shapeOf
   started e d (by-ref r b k f) proved =
       let c = below-child b in
       let a = field-a-child kind.start (λ x. refl) (start-kind pass) (c .1) in
-      valid-from e r d k f proved (start-starts pass bytes ends t) (aOf s (rowsOf s - 1)) refl (subst (λ (y : ℕ). (r ≡ y) ⊎ Below s r y) (sym a) (c .2))
+      valid-from e r d k f proved (start-starts J pass) (aOf s (rowsOf s - 1)) refl (subst (λ (y : ℕ). (r ≡ y) ⊎ Below s r y) (sym a) (c .2))
 
-  pub valid : Valid bytes ends s t ↔ ((d : ℕ) × StartNames bytes ends s t d × Proved (lookups bytes ends s t) 0 d)
+  pub valid : Valid J ↔ ((d : ℕ) × StartNames J d × Proved (lookups J) 0 d)
   valid = (
-    λ m. valid-to (start-starts pass bytes ends t) (aOf s (rowsOf s - 1)) refl (child (start-child pass)) m,
+    λ m. valid-to (start-starts J pass) (aOf s (rowsOf s - 1)) refl (child (start-child pass)) m,
     λ i. started 0 (i .0) (i .1) (i .2),
   )

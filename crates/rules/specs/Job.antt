@@ -3,7 +3,7 @@ use Prim.Native.Nat.{ℕ, zero, suc, _-_, _<_}
 use mathlib.Core.Path.{_≡_}
 use mathlib.Core.Bool.{Bool, true, cond}
 use mathlib.Core.List.{List, [], _∷_, map}
-use lib.ListN.{length}
+use Rattle.tables.specs.Tables.{Tables}
 use Rattle.strings.specs.Strings.{textOf}
 use Rattle.datatypes.specs.Whitespace.{whitespace, stringEqual, tokenEqual}
 use Rattle.schema.specs.Rows as schema
@@ -21,40 +21,40 @@ abbrev pub datatypeEqual : ℕ → List ℕ → List ℕ → Type 0
 datatypeEqual zero s₁ s₂ = stringEqual s₁ s₂
 datatypeEqual (suc n) s₁ s₂ = tokenEqual s₁ s₂
 
-module _ (bytes ends s t : List ℕ) where
+module _ (J : Tables) where
   -- a child as an item: an element by its row, a text by its bytes
   abbrev pub itemOf : ℕ → Item
-  itemOf r = cond (isElement t r) (element r) (string (textOf bytes ends (aOf t r)))
+  itemOf r = cond (isElement (J .instance) r) (element r) (string (textOf (J .strings) (aOf (J .instance) r)))
 
   abbrev pub lookups : Lookups
   lookups = record {
-    rows = schema.rowsOf s;
-    pattern = patternOf s;
-    isDefinition = λ d. schema.isElement (schema.sortOf s d);
-    nameClass = schema.aOf s;
-    content = schema.bOf s;
-    text = textOf bytes ends;
+    rows = schema.rowsOf (J .schema);
+    pattern = patternOf (J .schema);
+    isDefinition = λ d. schema.isElement (schema.sortOf (J .schema) d);
+    nameClass = schema.aOf (J .schema);
+    content = schema.bOf (J .schema);
+    text = textOf (J .strings);
     whitespace = whitespace;
     Equal = datatypeEqual;
-    inClass = λ nc x. inClass s (aOf t x) (bOf t x) nc;
-    SameName = SameName t;
-    attributes = isAttribute t;
-    children = λ e. map itemOf (childrenOf t e);
-    value = λ x. textOf bytes ends (cOf t x);
+    inClass = λ nc x. inClass (J .schema) (aOf (J .instance) x) (bOf (J .instance) x) nc;
+    SameName = SameName (J .instance);
+    attributes = isAttribute (J .instance);
+    children = λ e. map itemOf (childrenOf (J .instance) e);
+    value = λ x. textOf (J .strings) (cOf (J .instance) x);
   }
 
   -- element row e and definition row d are a pair of the match list: e is proved against a reference to d
   abbrev pub Pair : ℕ → ℕ → Type 0
-  Pair e d = (e < nodesOf t) × (isElement t e ≡ true) × Proved lookups e d
+  Pair e d = (e < nodesOf (J .instance)) × (isElement (J .instance) e ≡ true) × Proved lookups e d
 
   -- the row of start is the last
   abbrev pub startRow : ℕ
-  startRow = schema.rowsOf s - 1
+  startRow = schema.rowsOf (J .schema) - 1
 
   -- (valid) of 9.4: the root with no attributes beside it matches the pattern of start
   abbrev pub Valid : Type 0
-  Valid = Matches lookups none (element 0 ∷ []) (patternOf s (schema.aOf s startRow))
+  Valid = Matches lookups none (element 0 ∷ []) (patternOf (J .schema) (schema.aOf (J .schema) startRow))
 
   -- the start names a definition when a ref row below start points to it
   pub data StartNames (d : ℕ) : Type 0 where
-    by-ref : (r : ℕ) → Below s r startRow → schema.kindOf s r ≡ kind.ref → schema.aOf s r ≡ d → StartNames d
+    by-ref : (r : ℕ) → Below (J .schema) r startRow → schema.kindOf (J .schema) r ≡ kind.ref → schema.aOf (J .schema) r ≡ d → StartNames d

@@ -27,8 +27,8 @@ use Rattle.rules.specs.Job.{lookups, Valid}
 use Rattle.rules.proofs.Inversion.{step, against}
 use Rattle.rules.proofs.Passing.{restricted}
 use Rattle.rules.proofs.Paths.{start-starts}
-use Rattle.rules.proofs.Reach.{Part, Operand, operand, choice-first, choice-second}
-use Rattle.rules.proofs.Restricted.{Starts, starts-notAllowed, starts-ref, starts-choice}
+use Rattle.rules.specs.Reach.{Part, Operand, operand, choice-first, choice-second}
+use Rattle.rules.specs.Restricted.{Starts, starts-notAllowed, starts-ref, starts-choice}
 use Rattle.rules.proofs.RowPatterns.{row-makes, from-ref, from-choice, has-kind}
 use Rattle.marks.specs.Given.{pairEntry}
 use Rattle.pairs.specs.Pairs.{TablesPass, PairsRight}

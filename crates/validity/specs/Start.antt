@@ -8,7 +8,7 @@ use Rattle.schema.specs.Views.{patternOf}
 use Rattle.rules.specs.Items.{element, none}
 use Rattle.rules.specs.Rules.{Matches}
 use Rattle.rules.specs.Job.{lookups, Valid}
-use Rattle.rules.proofs.Restricted.{Starts}
+use Rattle.rules.specs.Restricted.{Starts}
 use Rattle.pairs.specs.Pairs.{TablesPass, PairsRight}
 
 -- where the tables pass and the pairs are right: whether the root alone matches the pattern at row p, if that is of the sort that start may have (10.2.6)

@@ -5,7 +5,7 @@ use mathlib.Core.Bool.{Bool, true}
 use mathlib.Core.List.{List}
 use Rattle.schema.specs.Views.{Pattern, notAllowed, dataAll, dataExcept, value, ref, oneOrMore, choice, group, interleave, noPattern}
 use Rattle.rules.specs.Items.{Item, Lookups}
-use Rattle.rules.proofs.Reach.{Part, Reaches, Within, isPair, isSimple, takesAny, namesAttribute, takes}
+use Rattle.rules.specs.Reach.{Part, Reaches, Within, isSharing, isSimple, takesAny, namesAttribute, takes}
 
 module _ (L : Lookups) where
   -- what may stand in an except (10.2.5)
@@ -24,7 +24,7 @@ module _ (L : Lookups) where
 
   -- no attribute stands in a group or interleave that x reaches (10.2.3)
   abbrev pub Flat : Pattern → Type 0
-  Flat x = (y : Pattern) → Within L x y → isPair y ≡ true → (u : ℕ) → ¬ Reaches L (namesAttribute L u) y
+  Flat x = (y : Pattern) → Within L x y → isSharing y ≡ true → (u : ℕ) → ¬ Reaches L (namesAttribute L u) y
 
   -- of two patterns the items go to one side where the other takes strings as data or value do (10.3)
   abbrev pub Sequenced : ℕ → ℕ → Type 0
