@@ -7,7 +7,8 @@ use native.Mathlib.Decide.{ℕ-discrete}
 use native.Mathlib.Omega.{arith}
 use borrow.Author.Tests.{eq-eqb, ne-eqb}
 use lib.ListN.{length, getD}
-use Rattle.strings.specs.Strings.{textOf}
+use Rattle.tables.specs.Tables.{StringTable, tablesOf}
+use Rattle.strings.specs.Strings.{textOf, schemaStrings, instanceStrings}
 use Rattle.datatypes.specs.Whitespace.{tokenEqual}
 use Rattle.schema.specs.Kinds as kind
 use Rattle.schema.specs.Rows.{kindOf, aOf, bOf}
@@ -84,9 +85,9 @@ module _ (s : List ℕ) (p : ℕ) where
     pub no-group : kindOf s p ≢ kind.group
     pub no-interleave : kindOf s p ≢ kind.interleave
 
-module _ (bytes ends s t : List ℕ) where
+module _ (T : StringTable) (s t : List ℕ) where
   abbrev L : Lookups
-  L = lookups bytes ends s t
+  L = lookups (tablesOf T s t)
 
   abbrev N : List ℕ → ℕ → Type 0
   N = NotMatchBy L (L .rows)
@@ -124,39 +125,39 @@ module _ (bytes ends s t : List ℕ) where
 
 -- a part of a pattern comes before it
 module _ (s : List ℕ) (p : ℕ) where
-  pub falls : (bytes ends t : List ℕ) → SchemaPasses (length ends) s → {q : ℕ} {x : Pattern} → patternOf s p ≡ x → Part q x → q < p
-  falls bytes ends t c {q} e h = restricted c bytes ends t .falls p q (rw e h)
+  pub falls : (T : StringTable) (t : List ℕ) → SchemaPasses (schemaStrings T) s → {q : ℕ} {x : Pattern} → patternOf s p ≡ x → Part q x → q < p
+  falls T t c {q} e h = restricted (tablesOf T s t) c .falls p q (rw e h)
 
 -- the empty sequence
 module _ (s nothing : List ℕ) (p : ℕ) {v : ℕ} where
   pub nothing-empty : kindOf s p ≡ kind.empty → v ≡ 1 → NothingAt s nothing p v
-  nothing-empty e f bytes ends t alone c b = (λ x. rw (is-empty s p e) empty, λ x. f)
+  nothing-empty e f T t alone c b = (λ x. rw (is-empty s p e) empty, λ x. f)
 
   pub nothing-text : kindOf s p ≡ kind.text → v ≡ 1 → NothingAt s nothing p v
-  nothing-text e f bytes ends t alone c b = (λ x. rw (is-text s p e) text-1, λ x. f)
+  nothing-text e f T t alone c b = (λ x. rw (is-text s p e) text-1, λ x. f)
 
   pub nothing-oneOrMore : kindOf s p ≡ kind.oneOrMore → v ≡ getD nothing (aOf s p) 0 → NothingAt s nothing p v
-  nothing-oneOrMore e f bytes ends t alone c b =
+  nothing-oneOrMore e f T t alone c b =
       let x = is-oneOrMore s p e in
-      rw f (Iff·trans (b .empty t (aOf s p) (falls s p bytes ends t c x (operand repeated))) (Iff·symm (null-oneOrMore (L bytes ends s t) (N bytes ends s t) x)))
+      rw f (Iff·trans (b .empty t (aOf s p) (falls s p T t c x (operand repeated))) (Iff·symm (null-oneOrMore (L T s t) (N T s t) x)))
 
   pub nothing-choice : kindOf s p ≡ kind.choice → (v ≡ 1) ↔ ((getD nothing (aOf s p) 0 ≡ 1) ⊎ (getD nothing (bOf s p) 0 ≡ 1)) → NothingAt s nothing p v
-  nothing-choice e f bytes ends t alone c b =
+  nothing-choice e f T t alone c b =
       let x = is-choice s p e in
-      Iff·trans f (Iff·trans (or-iff (b .empty t (aOf s p) (falls s p bytes ends t c x (operand choice-first))) (b .empty t (bOf s p) (falls s p bytes ends t c x (operand choice-second)))) (Iff·symm (null-choice (L bytes ends s t) (N bytes ends s t) x)))
+      Iff·trans f (Iff·trans (or-iff (b .empty t (aOf s p) (falls s p T t c x (operand choice-first))) (b .empty t (bOf s p) (falls s p T t c x (operand choice-second)))) (Iff·symm (null-choice (L T s t) (N T s t) x)))
 
   pub nothing-group : kindOf s p ≡ kind.group → (v ≡ 1) ↔ ((getD nothing (aOf s p) 0 ≡ 1) × (getD nothing (bOf s p) 0 ≡ 1)) → NothingAt s nothing p v
-  nothing-group e f bytes ends t alone c b =
+  nothing-group e f T t alone c b =
       let x = is-group s p e in
-      Iff·trans f (Iff·trans (and-iff (b .empty t (aOf s p) (falls s p bytes ends t c x (operand group-first))) (b .empty t (bOf s p) (falls s p bytes ends t c x (operand group-second)))) (Iff·symm (null-group (L bytes ends s t) (N bytes ends s t) p (aOf s p) (bOf s p) x)))
+      Iff·trans f (Iff·trans (and-iff (b .empty t (aOf s p) (falls s p T t c x (operand group-first))) (b .empty t (bOf s p) (falls s p T t c x (operand group-second)))) (Iff·symm (null-group (L T s t) (N T s t) p (aOf s p) (bOf s p) x)))
 
   pub nothing-interleave : kindOf s p ≡ kind.interleave → (v ≡ 1) ↔ ((getD nothing (aOf s p) 0 ≡ 1) × (getD nothing (bOf s p) 0 ≡ 1)) → NothingAt s nothing p v
-  nothing-interleave e f bytes ends t alone c b =
+  nothing-interleave e f T t alone c b =
       let x = is-interleave s p e in
-      Iff·trans f (Iff·trans (and-iff (b .empty t (aOf s p) (falls s p bytes ends t c x (operand interleave-first))) (b .empty t (bOf s p) (falls s p bytes ends t c x (operand interleave-second)))) (Iff·symm (null-interleave (L bytes ends s t) (N bytes ends s t) p (aOf s p) (bOf s p) x)))
+      Iff·trans f (Iff·trans (and-iff (b .empty t (aOf s p) (falls s p T t c x (operand interleave-first))) (b .empty t (bOf s p) (falls s p T t c x (operand interleave-second)))) (Iff·symm (null-interleave (L T s t) (N T s t) p (aOf s p) (bOf s p) x)))
 
   pub nothing-rest : Rest s p → kindOf s p ≢ kind.empty → v ≡ 0 → NothingAt s nothing p v
-  nothing-rest r f z bytes ends t alone c b = (λ e. absurd (not-one (sym z ∙ e)), λ d. absurd (no-null bytes ends s t p r f (row-makes s p refl) d))
+  nothing-rest r f z T t alone c b = (λ e. absurd (not-one (sym z ∙ e)), λ d. absurd (no-null T s t p r f (row-makes s p refl) d))
 
 one-string : {w : List ℕ} {P : List ℕ → Type 0} → One P (string w ∷ []) → P w
 one-string {w} {P} o = let e : o .0 ≡ w = cc (o .1) in rw (← e) (o .2)
@@ -165,64 +166,64 @@ one-denied : {w : List ℕ} {P : List ℕ → Type 0} → One P (string w ∷ []
 one-denied o h = h (one-string o)
 
 -- the string goes to one side of a group or interleave
-sides : (bytes ends s alone nothing : List ℕ) (p k : ℕ) (t : List ℕ) → Alone bytes ends s alone nothing p → aOf s p < p → bOf s p < p → k < length ends → OneSide alone nothing (aOf s p) (bOf s p) k ↔ Either (L bytes ends s t) (N bytes ends s t) (aOf s p) (bOf s p) (textOf bytes ends k)
-sides bytes ends s alone nothing p k t b l r h = or-iff (and-iff (b .strings t (aOf s p) k l h) (b .empty t (bOf s p) r)) (and-iff (b .empty t (aOf s p) l) (b .strings t (bOf s p) k r h))
+sides : (T : StringTable) (s alone nothing : List ℕ) (p k : ℕ) (t : List ℕ) → Alone T s alone nothing p → aOf s p < p → bOf s p < p → k < instanceStrings T → OneSide alone nothing (aOf s p) (bOf s p) k ↔ Either (L T s t) (N T s t) (aOf s p) (bOf s p) (textOf T k)
+sides T s alone nothing p k t b l r h = or-iff (and-iff (b .strings t (aOf s p) k l h) (b .empty t (bOf s p) r)) (and-iff (b .empty t (aOf s p) l) (b .strings t (bOf s p) k r h))
 
 -- one string
-module _ (bytes ends s alone nothing : List ℕ) (p k : ℕ) {v : ℕ} where
-  pub string-text : kindOf s p ≡ kind.text → v ≡ 1 → StringAt bytes ends s alone nothing p k v
-  string-text e f t c b h = (λ x. rw (is-text s p e) (text-2 (textOf bytes ends k) text-1), λ x. f)
+module _ (T : StringTable) (s alone nothing : List ℕ) (p k : ℕ) {v : ℕ} where
+  pub string-text : kindOf s p ≡ kind.text → v ≡ 1 → StringAt T s alone nothing p k v
+  string-text e f t c b h = (λ x. rw (is-text s p e) (text-2 (textOf T k) text-1), λ x. f)
 
-  pub string-data : kindOf s p ≡ kind.«data» → DataEntry alone (bOf s p) k v → StringAt bytes ends s alone nothing p k v
+  pub string-data : kindOf s p ≡ kind.«data» → DataEntry alone (bOf s p) k v → StringAt T s alone nothing p k v
   string-data e f t c b h = elim (ℕ-discrete (bOf s p) kind.none) [ yes z ↦ all z | no z ↦ except z ]
     where
-      all : bOf s p ≡ kind.none → TellsString bytes ends s t p k v
-      all z = (λ x. rw (is-data s p e z) (stepwise (L bytes ends s t) (N bytes ends s t) (pattern.dataAll (aOf s p)) .1 (refl, (textOf bytes ends k, refl, tt))), λ x. f .all z)
+      all : bOf s p ≡ kind.none → TellsString (tablesOf T s t) p k v
+      all z = (λ x. rw (is-data s p e z) (stepwise (L T s t) (N T s t) (pattern.dataAll (aOf s p)) .1 (refl, (textOf T k, refl, tt))), λ x. f .all z)
 
-      except : bOf s p ≢ kind.none → TellsString bytes ends s t p k v
+      except : bOf s p ≢ kind.none → TellsString (tablesOf T s t) p k v
       except z =
           let x = is-except s p e z in
-          let R = restricted c bytes ends t in
-          let n = not-match R p (aOf s p) (bOf s p) x (textOf bytes ends k) in
-          let l = b .strings t (bOf s p) k (falls s p bytes ends t c x of-except) h in (
-            λ y. rw x (stepwise (L bytes ends s t) (N bytes ends s t) (pattern.dataExcept (aOf s p) (bOf s p)) .1 (refl, (textOf bytes ends k, refl, n .1 (λ d. f .but z .0 y (l .1 d))))),
-            λ d. f .but z .1 (λ y. one-denied (stepwise (L bytes ends s t) (N bytes ends s t) (pattern.dataExcept (aOf s p) (bOf s p)) .0 (rw x at d) .1) (λ q. n .0 q (l .0 y))),
+          let R = restricted (tablesOf T s t) c in
+          let n = not-match R p (aOf s p) (bOf s p) x (textOf T k) in
+          let l = b .strings t (bOf s p) k (falls s p T t c x of-except) h in (
+            λ y. rw x (stepwise (L T s t) (N T s t) (pattern.dataExcept (aOf s p) (bOf s p)) .1 (refl, (textOf T k, refl, n .1 (λ d. f .but z .0 y (l .1 d))))),
+            λ d. f .but z .1 (λ y. one-denied (stepwise (L T s t) (N T s t) (pattern.dataExcept (aOf s p) (bOf s p)) .0 (rw x at d) .1) (λ q. n .0 q (l .0 y))),
           )
 
-  pub string-value : kindOf s p ≡ kind.value → EqualTo bytes ends (aOf s p) (bOf s p) k v → StringAt bytes ends s alone nothing p k v
+  pub string-value : kindOf s p ≡ kind.value → EqualTo T (aOf s p) (bOf s p) k v → StringAt T s alone nothing p k v
   string-value e f t c b h =
       let x = is-value s p e in
-      let y = stepwise (L bytes ends s t) (N bytes ends s t) (pattern.value (aOf s p) (bOf s p)) in
-      (λ z. rw x (y .1 (refl, (textOf bytes ends k, refl, f .0 z))), λ d. f .1 (one-string (y .0 (rw x at d) .1)))
+      let y = stepwise (L T s t) (N T s t) (pattern.value (aOf s p) (bOf s p)) in
+      (λ z. rw x (y .1 (refl, (textOf T k, refl, f .0 z))), λ d. f .1 (one-string (y .0 (rw x at d) .1)))
 
   -- a value has the entries of an earlier one with the same fields
-  pub string-same : {q : ℕ} → kindOf s p ≡ kind.value → SameRow s q p → EitherOf alone q q k v → StringAt bytes ends s alone nothing p k v
+  pub string-same : {q : ℕ} → kindOf s p ≡ kind.value → SameRow s q p → EitherOf alone q q k v → StringAt T s alone nothing p k v
   string-same {q} e r f t c b h =
       let x : patternOf s p ≡ patternOf s q = is-value s p e ∙ ap₂ pattern.value (sym (r .same-datatype)) (sym (r .same-string)) ∙ sym (is-value s q (r .is-value)) in
       rw x (Iff·trans f (Iff·trans one-iff (b .strings t q k (r .before) h)))
 
-  pub string-oneOrMore : kindOf s p ≡ kind.oneOrMore → EitherOf alone (aOf s p) (aOf s p) k v → StringAt bytes ends s alone nothing p k v
+  pub string-oneOrMore : kindOf s p ≡ kind.oneOrMore → EitherOf alone (aOf s p) (aOf s p) k v → StringAt T s alone nothing p k v
   string-oneOrMore e f t c b h =
       let x = is-oneOrMore s p e in
-      Iff·trans f (Iff·trans one-iff (Iff·trans (b .strings t (aOf s p) k (falls s p bytes ends t c x (operand repeated)) h) (Iff·symm (lone-oneOrMore (L bytes ends s t) (N bytes ends s t) x))))
+      Iff·trans f (Iff·trans one-iff (Iff·trans (b .strings t (aOf s p) k (falls s p T t c x (operand repeated)) h) (Iff·symm (lone-oneOrMore (L T s t) (N T s t) x))))
 
-  pub string-choice : kindOf s p ≡ kind.choice → EitherOf alone (aOf s p) (bOf s p) k v → StringAt bytes ends s alone nothing p k v
+  pub string-choice : kindOf s p ≡ kind.choice → EitherOf alone (aOf s p) (bOf s p) k v → StringAt T s alone nothing p k v
   string-choice e f t c b h =
       let x = is-choice s p e in
-      Iff·trans f (Iff·trans (or-iff (b .strings t (aOf s p) k (falls s p bytes ends t c x (operand choice-first)) h) (b .strings t (bOf s p) k (falls s p bytes ends t c x (operand choice-second)) h)) (Iff·symm (lone-choice (L bytes ends s t) (N bytes ends s t) x)))
+      Iff·trans f (Iff·trans (or-iff (b .strings t (aOf s p) k (falls s p T t c x (operand choice-first)) h) (b .strings t (bOf s p) k (falls s p T t c x (operand choice-second)) h)) (Iff·symm (lone-choice (L T s t) (N T s t) x)))
 
-  pub string-group : kindOf s p ≡ kind.group → OneOf alone nothing (aOf s p) (bOf s p) k v → StringAt bytes ends s alone nothing p k v
+  pub string-group : kindOf s p ≡ kind.group → OneOf alone nothing (aOf s p) (bOf s p) k v → StringAt T s alone nothing p k v
   string-group e f t c b h =
       let x = is-group s p e in
-      Iff·trans f (Iff·trans (sides bytes ends s alone nothing p k t b (falls s p bytes ends t c x (operand group-first)) (falls s p bytes ends t c x (operand group-second)) h) (Iff·symm (lone-group (L bytes ends s t) (N bytes ends s t) p (aOf s p) (bOf s p) x)))
+      Iff·trans f (Iff·trans (sides T s alone nothing p k t b (falls s p T t c x (operand group-first)) (falls s p T t c x (operand group-second)) h) (Iff·symm (lone-group (L T s t) (N T s t) p (aOf s p) (bOf s p) x)))
 
-  pub string-interleave : kindOf s p ≡ kind.interleave → OneOf alone nothing (aOf s p) (bOf s p) k v → StringAt bytes ends s alone nothing p k v
+  pub string-interleave : kindOf s p ≡ kind.interleave → OneOf alone nothing (aOf s p) (bOf s p) k v → StringAt T s alone nothing p k v
   string-interleave e f t c b h =
       let x = is-interleave s p e in
-      Iff·trans f (Iff·trans (sides bytes ends s alone nothing p k t b (falls s p bytes ends t c x (operand interleave-first)) (falls s p bytes ends t c x (operand interleave-second)) h) (Iff·symm (lone-interleave (L bytes ends s t) (N bytes ends s t) p (aOf s p) (bOf s p) x)))
+      Iff·trans f (Iff·trans (sides T s alone nothing p k t b (falls s p T t c x (operand interleave-first)) (falls s p T t c x (operand interleave-second)) h) (Iff·symm (lone-interleave (L T s t) (N T s t) p (aOf s p) (bOf s p) x)))
 
-  pub string-rest : Rest s p → kindOf s p ≢ kind.«data» → kindOf s p ≢ kind.value → v ≡ 0 → StringAt bytes ends s alone nothing p k v
-  string-rest r f g z t c b h = (λ e. absurd (not-one (sym z ∙ e)), λ d. absurd (no-lone bytes ends s t p r f g (row-makes s p refl) d))
+  pub string-rest : Rest s p → kindOf s p ≢ kind.«data» → kindOf s p ≢ kind.value → v ≡ 0 → StringAt T s alone nothing p k v
+  string-rest r f g z t c b h = (λ e. absurd (not-one (sym z ∙ e)), λ d. absurd (no-lone T s t p r f g (row-makes s p refl) d))
 
 -- equality by the number of the datatype
 pub by-string : (d : ℕ) (a b : List ℕ) → d ≡ 0 → (a ≡ b) ↔ datatypeEqual d a b

@@ -8,16 +8,17 @@ use native.Mathlib.Omega.{arith}
 use borrow.Author.Count.{below-more}
 use lib.ListN.{length, getD, set, length-set}
 use lib.Seq.{getD-set-same, getD-set-other}
-use Rattle.strings.specs.Strings.{textOf, maxStrings}
+use Rattle.tables.specs.Tables.{StringTable, tablesOf}
+use Rattle.strings.specs.Strings.{textOf, maxStrings, schemaStrings, instanceStrings}
 use Rattle.datatypes.specs.Whitespace.{whitespace}
 use Rattle.restrictions.specs.Schema.{SchemaPasses}
 use Rattle.alone.specs.Alone.{entry, TellsString, TellsNothing, Alone}
 use Rattle.alone.specs.Rows.{NothingAt, RowOf, RowMade}
 
 -- the rows below p are right in any table that has their entries
-alone-kept : {bytes ends s before now nothing : List ℕ} {p : ℕ} → length ends ≤ maxStrings → ((i : ℕ) → i < p * maxStrings → getD now i 0 ≡ getD before i 0) → Alone bytes ends s before nothing p → Alone bytes ends s now nothing p
-alone-kept {bytes} {ends} {s} {before} {now} h f a = record {
-  strings = λ t q k l m. subst (λ (v : ℕ). TellsString bytes ends s t q k v) (sym (f (q * maxStrings + k) (omega arith))) (a .strings t q k l m);
+alone-kept : {T : StringTable} {s before now nothing : List ℕ} {p : ℕ} → instanceStrings T ≤ maxStrings → ((i : ℕ) → i < p * maxStrings → getD now i 0 ≡ getD before i 0) → Alone T s before nothing p → Alone T s now nothing p
+alone-kept {T} {s} {before} {now} h f a = record {
+  strings = λ t q k l m. subst (λ (v : ℕ). TellsString (tablesOf T s t) q k v) (sym (f (q * maxStrings + k) (omega arith))) (a .strings t q k l m);
   empty = a .empty;
 }
 
@@ -45,27 +46,27 @@ module _ {f : ℕ → ℕ → Type 0} {before : List ℕ} {p : ℕ} where
   pub row-less : {after : List ℕ} {n k : ℕ} → n ≤ k → RowOf f before after p k → RowOf f before after p n
   row-less h r = record { size = r .size; kept = r .kept; each = λ j l. r .each j (omega arith) }
 
-pub rows-none : {bytes ends s alone nothing : List ℕ} → Alone bytes ends s alone nothing 0
+pub rows-none : {T : StringTable} {s alone nothing : List ℕ} → Alone T s alone nothing 0
 rows-none = record { strings = λ t p k h. absurd (omega arith); empty = λ t p h. absurd (omega arith) }
 
-pub rows-more : {bytes ends s alone after nothing : List ℕ} {p v : ℕ} → length ends ≤ maxStrings → p < length nothing → SchemaPasses (length ends) s → Alone bytes ends s alone nothing p
-    → RowMade bytes ends s alone nothing after p → NothingAt s nothing p v → Alone bytes ends s after (set nothing p v) (p + 1)
-rows-more {bytes} {ends} {s} {alone} {after} {nothing} {p} {v} h i c a m d =
+pub rows-more : {T : StringTable} {s alone after nothing : List ℕ} {p v : ℕ} → instanceStrings T ≤ maxStrings → p < length nothing → SchemaPasses (schemaStrings T) s → Alone T s alone nothing p
+    → RowMade T s alone nothing after p → NothingAt s nothing p v → Alone T s after (set nothing p v) (p + 1)
+rows-more {T} {s} {alone} {after} {nothing} {p} {v} h i c a m d =
     let r = m c a in
     let b = alone-kept {now = after} h (r .kept) a in
     record {
-      strings = λ t q k. below-more (λ (j : ℕ). k < length ends → TellsString bytes ends s t j k (entry after j k)) p (λ j m. b .strings t j k m) (λ l. r .each k l t) q;
-      empty = λ t. below-more (λ (j : ℕ). TellsNothing bytes ends s t j (getD (set nothing p v) j 0)) p
-          (λ j m. subst (λ (x : ℕ). TellsNothing bytes ends s t j x) (sym (getD-set-other nothing p j v 0 (λ e. omega arith))) (a .empty t j m))
-          (subst (λ (x : ℕ). TellsNothing bytes ends s t p x) (sym (getD-set-same nothing p v 0 i)) (d bytes ends t alone c a));
+      strings = λ t q k. below-more (λ (j : ℕ). k < instanceStrings T → TellsString (tablesOf T s t) j k (entry after j k)) p (λ j m. b .strings t j k m) (λ l. r .each k l t) q;
+      empty = λ t. below-more (λ (j : ℕ). TellsNothing (tablesOf T s t) j (getD (set nothing p v) j 0)) p
+          (λ j m. subst (λ (x : ℕ). TellsNothing (tablesOf T s t) j x) (sym (getD-set-other nothing p j v 0 (λ e. omega arith))) (a .empty t j m))
+          (subst (λ (x : ℕ). TellsNothing (tablesOf T s t) p x) (sym (getD-set-same nothing p v 0 i)) (d T t alone c a));
     }
 
 -- the first k strings
-abbrev pub BlankTo : List ℕ → List ℕ → List ℕ → ℕ → Type 0
-BlankTo bytes ends blank n = (k : ℕ) → k < n → (getD blank k 0 ≡ 1) ↔ (whitespace (textOf bytes ends k) ≡ true)
+abbrev pub BlankTo : StringTable → List ℕ → ℕ → Type 0
+BlankTo T blank n = (k : ℕ) → k < n → (getD blank k 0 ≡ 1) ↔ (whitespace (textOf T k) ≡ true)
 
-pub blank-more : (bytes ends blank : List ℕ) (k v : ℕ) → k < length blank → (v ≡ 1) ↔ (whitespace (textOf bytes ends k) ≡ true) → BlankTo bytes ends blank k → BlankTo bytes ends (set blank k v) (k + 1)
-blank-more bytes ends blank k v i d b =
-    below-more (λ (j : ℕ). (getD (set blank k v) j 0 ≡ 1) ↔ (whitespace (textOf bytes ends j) ≡ true)) k
-    (λ j m. subst (λ (x : ℕ). (x ≡ 1) ↔ (whitespace (textOf bytes ends j) ≡ true)) (sym (getD-set-other blank k j v 0 (λ e. omega arith))) (b j m))
-    (subst (λ (x : ℕ). (x ≡ 1) ↔ (whitespace (textOf bytes ends k) ≡ true)) (sym (getD-set-same blank k v 0 i)) d)
+pub blank-more : (T : StringTable) (blank : List ℕ) (k v : ℕ) → k < length blank → (v ≡ 1) ↔ (whitespace (textOf T k) ≡ true) → BlankTo T blank k → BlankTo T (set blank k v) (k + 1)
+blank-more T blank k v i d b =
+    below-more (λ (j : ℕ). (getD (set blank k v) j 0 ≡ 1) ↔ (whitespace (textOf T j) ≡ true)) k
+    (λ j m. subst (λ (x : ℕ). (x ≡ 1) ↔ (whitespace (textOf T j) ≡ true)) (sym (getD-set-other blank k j v 0 (λ e. omega arith))) (b j m))
+    (subst (λ (x : ℕ). (x ≡ 1) ↔ (whitespace (textOf T k) ≡ true)) (sym (getD-set-same blank k v 0 i)) d)

@@ -8,6 +8,7 @@ use native.Mathlib.Omega.{arith}
 use borrow.Author.Count.{below-more}
 use lib.ListN.{length, getD, set, drop}
 use lib.Seq.{getD-set-same, getD-set-other, getD-drop}
+use Rattle.tables.specs.Tables.{StringTable}
 use Rattle.strings.specs.Strings.{textOf}
 use Rattle.datatypes.specs.Whitespace.{space, normalizeWhiteSpace}
 use Rattle.datatypes.specs.Cursor.{Skips}
@@ -35,8 +36,8 @@ not-equal d a b f g n = (λ e. absurd (not-one e), λ e. absurd (n (f ∙ same-l
 pub lead-at : (s : List ℕ) {at : ℕ} → Skips s 0 at → getD s at 0 ≡ leadOf s
 lead-at s {at} k = let same : at + 0 ≡ at = omega arith in sym (getD-drop at s 0 0 ∙ ap (λ (i : ℕ). getD s i 0) same) ∙ ap (λ (l : List ℕ). getD l 0 0) (k .trimmed)
 
-pub leads-more : (bytes ends leads : List ℕ) (k : ℕ) {v : ℕ} {text : List ℕ} → k < length leads → v ≡ leadOf text → text ≡ textOf bytes ends k → LeadsTo bytes ends leads k → LeadsTo bytes ends (set leads k v) (k + 1)
-leads-more bytes ends leads k {v} {text} i e f r =
-    below-more (λ (j : ℕ). getD (set leads k v) j 0 ≡ leadOf (textOf bytes ends j)) k
+pub leads-more : (T : StringTable) (leads : List ℕ) (k : ℕ) {v : ℕ} {text : List ℕ} → k < length leads → v ≡ leadOf text → text ≡ textOf T k → LeadsTo T leads k → LeadsTo T (set leads k v) (k + 1)
+leads-more T leads k {v} {text} i e f r =
+    below-more (λ (j : ℕ). getD (set leads k v) j 0 ≡ leadOf (textOf T j)) k
     (λ j m. getD-set-other leads k j v 0 (λ z. omega arith) ∙ r j m)
     (getD-set-same leads k v 0 i ∙ e ∙ ap leadOf f)

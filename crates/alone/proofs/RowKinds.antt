@@ -4,6 +4,8 @@ use mathlib.Core.Path.{_≡_, sym, _∙_}
 use mathlib.Core.List.{List, []}
 use mathlib.Core.Logic.{inl, inr, ⊎-map, ⊎-elim, _≢_, Iff·trans}
 use lib.ListN.{length, getD}
+use Rattle.tables.specs.Tables.{StringTable}
+use Rattle.strings.specs.Strings.{schemaStrings, instanceStrings}
 use Rattle.schema.specs.Kinds as kind
 use Rattle.schema.specs.Rows.{kindOf, aOf, bOf}
 use Rattle.restrictions.specs.Schema.{SchemaPasses}
@@ -35,45 +37,45 @@ module _ (before nothing : List ℕ) {after : List ℕ} {p n : ℕ} (a b : ℕ) 
   one-none f g = row-map (λ k v h e. (λ z. absurd (not-one (sym e ∙ z)), ⊎-elim (λ d. absurd (g (ye ∙ d .1))) (λ d. absurd (f (xe ∙ d .0)))))
 
 -- a row that is filled by its kind
-module _ (bytes ends s before nothing : List ℕ) {after : List ℕ} (p : ℕ) where
-  made : {f : ℕ → ℕ → Type 0} → ((k v : ℕ) → f k v → StringAt bytes ends s before nothing p k v) → (SchemaPasses (length ends) s → RowOf f before after p (length ends)) → RowMade bytes ends s before nothing after p
+module _ (T : StringTable) (s before nothing : List ℕ) {after : List ℕ} (p : ℕ) where
+  made : {f : ℕ → ℕ → Type 0} → ((k v : ℕ) → f k v → StringAt T s before nothing p k v) → (SchemaPasses (schemaStrings T) s → RowOf f before after p (instanceStrings T)) → RowMade T s before nothing after p
   made law r c b = row-map (λ k v h x t. law k v x t c b h) (r c)
 
-  pub made-text : kindOf s p ≡ kind.text → RowOf (λ k v. v ≡ 1) before after p (length ends) → RowMade bytes ends s before nothing after p
-  made-text e r = made (λ k v. string-text bytes ends s before nothing p k e) (λ c. r)
+  pub made-text : kindOf s p ≡ kind.text → RowOf (λ k v. v ≡ 1) before after p (instanceStrings T) → RowMade T s before nothing after p
+  made-text e r = made (λ k v. string-text T s before nothing p k e) (λ c. r)
 
-  pub made-rest : Rest s p → kindOf s p ≢ kind.«data» → kindOf s p ≢ kind.value → RowOf (λ k v. v ≡ 0) before after p (length ends) → RowMade bytes ends s before nothing after p
-  made-rest e f g r = made (λ k v. string-rest bytes ends s before nothing p k e f g) (λ c. r)
+  pub made-rest : Rest s p → kindOf s p ≢ kind.«data» → kindOf s p ≢ kind.value → RowOf (λ k v. v ≡ 0) before after p (instanceStrings T) → RowMade T s before nothing after p
+  made-rest e f g r = made (λ k v. string-rest T s before nothing p k e f g) (λ c. r)
 
-  pub made-same : {q : ℕ} → kindOf s p ≡ kind.value → SameRow s q p → (q < p → q < p → RowOf (EitherOf before q q) before after p (length ends)) → RowMade bytes ends s before nothing after p
-  made-same e w r = made (λ k v. string-same bytes ends s before nothing p k e w) (λ c. r (w .before) (w .before))
+  pub made-same : {q : ℕ} → kindOf s p ≡ kind.value → SameRow s q p → (q < p → q < p → RowOf (EitherOf before q q) before after p (instanceStrings T)) → RowMade T s before nothing after p
+  made-same e w r = made (λ k v. string-same T s before nothing p k e w) (λ c. r (w .before) (w .before))
 
   -- the fields of the row, as they were read
   module _ {a b : ℕ} (ae : a ≡ aOf s p) (be : b ≡ bOf s p) where
-    pub made-data : kindOf s p ≡ kind.«data» → ((b ≢ kind.none → b < p) → RowOf (DataEntry before b) before after p (length ends)) → RowMade bytes ends s before nothing after p
+    pub made-data : kindOf s p ≡ kind.«data» → ((b ≢ kind.none → b < p) → RowOf (DataEntry before b) before after p (instanceStrings T)) → RowMade T s before nothing after p
     made-data e r =
-        made (λ k v x. string-data bytes ends s before nothing p k e (rw be at x))
-        (λ c. r (λ z. rw be (falls s p bytes ends [] c (is-except s p e (λ n. z (be ∙ n))) of-except)))
+        made (λ k v x. string-data T s before nothing p k e (rw be at x))
+        (λ c. r (λ z. rw be (falls s p T [] c (is-except s p e (λ n. z (be ∙ n))) of-except)))
 
-    pub made-value : kindOf s p ≡ kind.value → RowOf (EqualTo bytes ends a b) before after p (length ends) → RowMade bytes ends s before nothing after p
-    made-value e r = made (λ k v x. string-value bytes ends s before nothing p k e (rw (ae, be) at x)) (λ c. r)
+    pub made-value : kindOf s p ≡ kind.value → RowOf (EqualTo T a b) before after p (instanceStrings T) → RowMade T s before nothing after p
+    made-value e r = made (λ k v x. string-value T s before nothing p k e (rw (ae, be) at x)) (λ c. r)
 
-    pub made-oneOrMore : kindOf s p ≡ kind.oneOrMore → (a < p → a < p → RowOf (EitherOf before a a) before after p (length ends)) → RowMade bytes ends s before nothing after p
+    pub made-oneOrMore : kindOf s p ≡ kind.oneOrMore → (a < p → a < p → RowOf (EitherOf before a a) before after p (instanceStrings T)) → RowMade T s before nothing after p
     made-oneOrMore e r =
-        made (λ k v x. string-oneOrMore bytes ends s before nothing p k e (rw ae at x))
-        (λ c. let h : a < p = rw ae (falls s p bytes ends [] c (is-oneOrMore s p e) (operand repeated)) in r h h)
+        made (λ k v x. string-oneOrMore T s before nothing p k e (rw ae at x))
+        (λ c. let h : a < p = rw ae (falls s p T [] c (is-oneOrMore s p e) (operand repeated)) in r h h)
 
-    pub made-choice : kindOf s p ≡ kind.choice → (a < p → b < p → RowOf (EitherOf before a b) before after p (length ends)) → RowMade bytes ends s before nothing after p
+    pub made-choice : kindOf s p ≡ kind.choice → (a < p → b < p → RowOf (EitherOf before a b) before after p (instanceStrings T)) → RowMade T s before nothing after p
     made-choice e r =
-        made (λ k v x. string-choice bytes ends s before nothing p k e (rw (ae, be) at x))
-        (λ c. r (rw ae (falls s p bytes ends [] c (is-choice s p e) (operand choice-first))) (rw be (falls s p bytes ends [] c (is-choice s p e) (operand choice-second))))
+        made (λ k v x. string-choice T s before nothing p k e (rw (ae, be) at x))
+        (λ c. r (rw ae (falls s p T [] c (is-choice s p e) (operand choice-first))) (rw be (falls s p T [] c (is-choice s p e) (operand choice-second))))
 
-    pub made-group : kindOf s p ≡ kind.group → (a < p → b < p → RowOf (OneOf before nothing a b) before after p (length ends)) → RowMade bytes ends s before nothing after p
+    pub made-group : kindOf s p ≡ kind.group → (a < p → b < p → RowOf (OneOf before nothing a b) before after p (instanceStrings T)) → RowMade T s before nothing after p
     made-group e r =
-        made (λ k v x. string-group bytes ends s before nothing p k e (rw (ae, be) at x))
-        (λ c. r (rw ae (falls s p bytes ends [] c (is-group s p e) (operand group-first))) (rw be (falls s p bytes ends [] c (is-group s p e) (operand group-second))))
+        made (λ k v x. string-group T s before nothing p k e (rw (ae, be) at x))
+        (λ c. r (rw ae (falls s p T [] c (is-group s p e) (operand group-first))) (rw be (falls s p T [] c (is-group s p e) (operand group-second))))
 
-    pub made-interleave : kindOf s p ≡ kind.interleave → (a < p → b < p → RowOf (OneOf before nothing a b) before after p (length ends)) → RowMade bytes ends s before nothing after p
+    pub made-interleave : kindOf s p ≡ kind.interleave → (a < p → b < p → RowOf (OneOf before nothing a b) before after p (instanceStrings T)) → RowMade T s before nothing after p
     made-interleave e r =
-        made (λ k v x. string-interleave bytes ends s before nothing p k e (rw (ae, be) at x))
-        (λ c. r (rw ae (falls s p bytes ends [] c (is-interleave s p e) (operand interleave-first))) (rw be (falls s p bytes ends [] c (is-interleave s p e) (operand interleave-second))))
+        made (λ k v x. string-interleave T s before nothing p k e (rw (ae, be) at x))
+        (λ c. r (rw ae (falls s p T [] c (is-interleave s p e) (operand interleave-first))) (rw be (falls s p T [] c (is-interleave s p e) (operand interleave-second))))

@@ -5,7 +5,8 @@ use mathlib.Core.Bool.{true}
 use mathlib.Core.List.{List, [], _∷_}
 use mathlib.Core.Logic.{_↔_}
 use lib.ListN.{length, getD}
-use Rattle.strings.specs.Strings.{textOf, maxStrings}
+use Rattle.tables.specs.Tables.{StringTable, Tables, tablesOf}
+use Rattle.strings.specs.Strings.{textOf, maxStrings, schemaStrings, instanceStrings}
 use Rattle.datatypes.specs.Whitespace.{whitespace}
 use Rattle.schema.specs.Rows.{rowsOf}
 use Rattle.schema.specs.RowRule.{maxRows}
@@ -20,31 +21,31 @@ abbrev pub entry : List ℕ → ℕ → ℕ → ℕ
 entry alone p k = getD alone (p * maxStrings + k) 0
 
 -- the strings that are whitespace
-abbrev pub Blank : List ℕ → List ℕ → List ℕ → Type 0
-Blank bytes ends blank = (k : ℕ) → k < length ends → (getD blank k 0 ≡ 1) ↔ (whitespace (textOf bytes ends k) ≡ true)
+abbrev pub Blank : StringTable → List ℕ → Type 0
+Blank T blank = (k : ℕ) → k < instanceStrings T → (getD blank k 0 ≡ 1) ↔ (whitespace (textOf T k) ≡ true)
 
 -- v is 1 exactly when the string alone, with no attributes, matches the pattern at row p
-abbrev pub TellsString : (bytes ends s t : List ℕ) (p k v : ℕ) → Type 0
-TellsString bytes ends s t p k v = (v ≡ 1) ↔ Matches (lookups bytes ends s t) none (string (textOf bytes ends k) ∷ []) (patternOf s p)
+abbrev pub TellsString : (J : Tables) (p k v : ℕ) → Type 0
+TellsString J p k v = (v ≡ 1) ↔ Matches (lookups J) none (string (textOf (J .strings) k) ∷ []) (patternOf (J .schema) p)
 
 -- and so the empty sequence
-abbrev pub TellsNothing : (bytes ends s t : List ℕ) (p v : ℕ) → Type 0
-TellsNothing bytes ends s t p v = (v ≡ 1) ↔ Matches (lookups bytes ends s t) none [] (patternOf s p)
+abbrev pub TellsNothing : (J : Tables) (p v : ℕ) → Type 0
+TellsNothing J p v = (v ≡ 1) ↔ Matches (lookups J) none [] (patternOf (J .schema) p)
 
 -- the entries of the rows below n, whatever the instance is
-pub record Alone (bytes ends s alone nothing : List ℕ) (n : ℕ) : Type 0 where
-  pub strings : (t : List ℕ) (p k : ℕ) → p < n → k < length ends → TellsString bytes ends s t p k (entry alone p k)
-  pub empty : (t : List ℕ) (p : ℕ) → p < n → TellsNothing bytes ends s t p (getD nothing p 0)
+pub record Alone (T : StringTable) (s alone nothing : List ℕ) (n : ℕ) : Type 0 where
+  pub strings : (t : List ℕ) (p k : ℕ) → p < n → k < instanceStrings T → TellsString (tablesOf T s t) p k (entry alone p k)
+  pub empty : (t : List ℕ) (p : ℕ) → p < n → TellsNothing (tablesOf T s t) p (getD nothing p 0)
 
 -- the schema passes, and the tables have room for all rows and strings
-pub record Ready (ends s alone nothing blank : List ℕ) : Type 0 where
-  pub passes : SchemaPasses (length ends) s
-  pub few-strings : length ends ≤ maxStrings
+pub record Ready (T : StringTable) (s alone nothing blank : List ℕ) : Type 0 where
+  pub passes : SchemaPasses (schemaStrings T) s
+  pub few-strings : instanceStrings T ≤ maxStrings
   pub long-alone : maxRows * maxStrings ≤ length alone
   pub long-nothing : maxRows ≤ length nothing
   pub long-blank : maxStrings ≤ length blank
 
 -- the three tables are right
-pub record Filled (bytes ends s alone nothing blank : List ℕ) : Type 0 where
-  pub entries : Alone bytes ends s alone nothing (rowsOf s)
-  pub blanks : Blank bytes ends blank
+pub record Filled (T : StringTable) (s alone nothing blank : List ℕ) : Type 0 where
+  pub entries : Alone T s alone nothing (rowsOf s)
+  pub blanks : Blank T blank

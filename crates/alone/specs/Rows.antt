@@ -4,9 +4,10 @@ use mathlib.Core.Path.{_≡_}
 use mathlib.Core.Logic.{_↔_, _⊎_, _≢_}
 use mathlib.Core.List.{List}
 use lib.ListN.{length, getD}
+use Rattle.tables.specs.Tables.{StringTable, tablesOf}
 use Rattle.schema.specs.Kinds as kind
 use Rattle.schema.specs.Rows.{kindOf, aOf, bOf}
-use Rattle.strings.specs.Strings.{textOf, maxStrings}
+use Rattle.strings.specs.Strings.{textOf, maxStrings, schemaStrings, instanceStrings}
 use Rattle.restrictions.specs.Schema.{SchemaPasses}
 use Rattle.datatypes.specs.Whitespace.{trimStart}
 use Rattle.rules.specs.Job.{datatypeEqual}
@@ -33,8 +34,8 @@ abbrev pub OneOf : (alone nothing : List ℕ) (a b k v : ℕ) → Type 0
 OneOf alone nothing a b k v = (v ≡ 1) ↔ OneSide alone nothing a b k
 
 -- the string is one value with string w
-abbrev pub EqualTo : (bytes ends : List ℕ) (datatype w k v : ℕ) → Type 0
-EqualTo bytes ends datatype w k v = (v ≡ 1) ↔ datatypeEqual datatype (textOf bytes ends k) (textOf bytes ends w)
+abbrev pub EqualTo : (T : StringTable) (datatype w k v : ℕ) → Type 0
+EqualTo T datatype w k v = (v ≡ 1) ↔ datatypeEqual datatype (textOf T k) (textOf T w)
 
 -- row q comes before row p, and is a value with the same fields
 pub record SameRow (s : List ℕ) (q p : ℕ) : Type 0 where
@@ -48,16 +49,16 @@ abbrev pub leadOf : List ℕ → ℕ
 leadOf text = getD (trimStart text) 0 0
 
 -- the leads of the first n strings
-abbrev pub LeadsTo : (bytes ends leads : List ℕ) (n : ℕ) → Type 0
-LeadsTo bytes ends leads n = (k : ℕ) → k < n → getD leads k 0 ≡ leadOf (textOf bytes ends k)
+abbrev pub LeadsTo : (T : StringTable) (leads : List ℕ) (n : ℕ) → Type 0
+LeadsTo T leads n = (k : ℕ) → k < n → getD leads k 0 ≡ leadOf (textOf T k)
 
 -- the answer for the empty sequence at row p, where the rows below are right
 abbrev pub NothingAt : (s nothing : List ℕ) (p v : ℕ) → Type 0
-NothingAt s nothing p v = (bytes ends t alone : List ℕ) → SchemaPasses (length ends) s → Alone bytes ends s alone nothing p → TellsNothing bytes ends s t p v
+NothingAt s nothing p v = (T : StringTable) (t alone : List ℕ) → SchemaPasses (schemaStrings T) s → Alone T s alone nothing p → TellsNothing (tablesOf T s t) p v
 
 -- the answer for string k at row p, where the rows below are right
-abbrev pub StringAt : (bytes ends s alone nothing : List ℕ) (p k v : ℕ) → Type 0
-StringAt bytes ends s alone nothing p k v = (t : List ℕ) → SchemaPasses (length ends) s → Alone bytes ends s alone nothing p → k < length ends → TellsString bytes ends s t p k v
+abbrev pub StringAt : (T : StringTable) (s alone nothing : List ℕ) (p k v : ℕ) → Type 0
+StringAt T s alone nothing p k v = (t : List ℕ) → SchemaPasses (schemaStrings T) s → Alone T s alone nothing p → k < instanceStrings T → TellsString (tablesOf T s t) p k v
 
 -- the first n entries of row p are as f tells, and nothing before the row has changed
 pub record RowOf (f : ℕ → ℕ → Type 0) (before after : List ℕ) (p n : ℕ) : Type 0 where
@@ -66,5 +67,5 @@ pub record RowOf (f : ℕ → ℕ → Type 0) (before after : List ℕ) (p n : �
   pub each : (k : ℕ) → k < n → f k (entry after p k)
 
 -- the entries of row p are right, where those of the rows below are
-abbrev pub RowMade : (bytes ends s before nothing after : List ℕ) (p : ℕ) → Type 0
-RowMade bytes ends s before nothing after p = SchemaPasses (length ends) s → Alone bytes ends s before nothing p → RowOf (λ k v. (t : List ℕ) → TellsString bytes ends s t p k v) before after p (length ends)
+abbrev pub RowMade : (T : StringTable) (s before nothing after : List ℕ) (p : ℕ) → Type 0
+RowMade T s before nothing after p = SchemaPasses (schemaStrings T) s → Alone T s before nothing p → RowOf (λ k v. (t : List ℕ) → TellsString (tablesOf T s t) p k v) before after p (instanceStrings T)

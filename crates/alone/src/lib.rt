@@ -5,6 +5,7 @@ ghost use mathlib.Core.Logic.{_↔_, _⊎_, _≢_};
 ghost use mathlib.Core.List.{List};
 ghost use Prim.Native.Nat.{ℕ, _<_, _≤_};
 ghost use lib.ListN.{length, getD};
+ghost use Rattle.tables.specs.Tables.{stringTable};
 ghost use Rattle.strings.specs.Strings.{textOf};
 ghost use Rattle.datatypes.specs.Whitespace.{whitespace};
 ghost use Rattle.restrictions.specs.Schema.{SchemaPasses};
@@ -91,7 +92,7 @@ fn lead(text: &[u8]) -> u8
 // The lead of each string.
 fn fill_leads(bytes: &[u8], ends: &[u32], leads: &mut [u8])
     requires { ⌜ (length (now ends) ≤ 512) × (512 ≤ length (now leads)) ⌝ }
-    ensures { λ _. ⌜ LeadsTo (now (bytes .entry)) (now (ends .entry)) (now (leads .exit)) (length (now (ends .entry))) ⌝ }
+    ensures { λ _. ⌜ LeadsTo (stringTable (now (bytes .entry)) (now (ends .entry))) (now (leads .exit)) (length (now (ends .entry))) ⌝ }
 {
     let mut k: usize = 0;
     while k < ends.len() {
@@ -111,8 +112,8 @@ fn equal_at(
     first: u8,
     k: usize,
 ) -> u8
-    requires { ⌜ (first ≡ leadOf (now own)) × (getD (now leads) k 0 ≡ leadOf (textOf (now bytes) (now ends) k)) ⌝ }
-    ensures { λ r. ⌜ (r ≡ 1) ↔ datatypeEqual datatype (textOf (now (bytes .entry)) (now (ends .entry)) k) (now (own .entry)) ⌝ }
+    requires { ⌜ (first ≡ leadOf (now own)) × (getD (now leads) k 0 ≡ leadOf (textOf (stringTable (now bytes) (now ends)) k)) ⌝ }
+    ensures { λ r. ⌜ (r ≡ 1) ↔ datatypeEqual datatype (textOf (stringTable (now (bytes .entry)) (now (ends .entry))) k) (now (own .entry)) ⌝ }
 {
     if tables::byte(leads, k) != first {
         return 0;
@@ -215,8 +216,8 @@ fn fill_equal(
     datatype: u32,
     v: u32,
 )
-    requires { ⌜ (p < 512) × (length (now ends) ≤ 512) × (262144 ≤ length (now alone)) × LeadsTo (now bytes) (now ends) (now leads) (length (now ends)) ⌝ }
-    ensures { λ _. ⌜ RowOf (EqualTo (now (bytes .entry)) (now (ends .entry)) datatype v) (now (alone .entry)) (now (alone .exit)) p (length (now (ends .entry))) ⌝ }
+    requires { ⌜ (p < 512) × (length (now ends) ≤ 512) × (262144 ≤ length (now alone)) × LeadsTo (stringTable (now bytes) (now ends)) (now leads) (length (now ends)) ⌝ }
+    ensures { λ _. ⌜ RowOf (EqualTo (stringTable (now (bytes .entry)) (now (ends .entry))) datatype v) (now (alone .entry)) (now (alone .exit)) p (length (now (ends .entry))) ⌝ }
 {
     let own = strings::text(bytes, ends, v as usize);
     let first = lead(own);
@@ -262,8 +263,8 @@ fn fill_value(
     noted: &mut [u32; 1024],
     p: u32,
 )
-    requires { ⌜ (p < 512) × (length (now ends) ≤ 512) × (262144 ≤ length (now alone)) × LeadsTo (now bytes) (now ends) (now leads) (length (now ends)) ⌝ }
-    ensures { λ _. ⌜ ((nothing : List ℕ) → kindOf (now (schema .entry)) p ≡ value → RowMade (now (bytes .entry)) (now (ends .entry)) (now (schema .entry)) (now (alone .entry)) nothing (now (alone .exit)) p) ⌝ }
+    requires { ⌜ (p < 512) × (length (now ends) ≤ 512) × (262144 ≤ length (now alone)) × LeadsTo (stringTable (now bytes) (now ends)) (now leads) (length (now ends)) ⌝ }
+    ensures { λ _. ⌜ ((nothing : List ℕ) → kindOf (now (schema .entry)) p ≡ value → RowMade (stringTable (now (bytes .entry)) (now (ends .entry))) (now (schema .entry)) (now (alone .entry)) nothing (now (alone .exit)) p) ⌝ }
 {
     let a = schema::field_a(schema, p);
     let b = schema::field_b(schema, p);
@@ -288,8 +289,8 @@ fn fill_row(
     noted: &mut [u32; 1024],
     p: u32,
 )
-    requires { ⌜ (p < 512) × (length (now ends) ≤ 512) × (262144 ≤ length (now alone)) × LeadsTo (now bytes) (now ends) (now leads) (length (now ends)) ⌝ }
-    ensures { λ _. ⌜ RowMade (now (bytes .entry)) (now (ends .entry)) (now (schema .entry)) (now (alone .entry)) (now (nothing .entry)) (now (alone .exit)) p ⌝ }
+    requires { ⌜ (p < 512) × (length (now ends) ≤ 512) × (262144 ≤ length (now alone)) × LeadsTo (stringTable (now bytes) (now ends)) (now leads) (length (now ends)) ⌝ }
+    ensures { λ _. ⌜ RowMade (stringTable (now (bytes .entry)) (now (ends .entry))) (now (schema .entry)) (now (alone .entry)) (now (nothing .entry)) (now (alone .exit)) p ⌝ }
 {
     let kind = schema::kind(schema, p);
     let a = schema::field_a(schema, p);
@@ -317,7 +318,7 @@ fn fill_rows(
     rows: u32,
 )
     requires { ⌜ (rows ≤ 512) × (length (now ends) ≤ 512) × (262144 ≤ length (now alone)) × (512 ≤ length (now nothing)) ⌝ }
-    ensures { λ _. ⌜ (SchemaPasses (length (now (ends .entry))) (now (schema .entry)) → Alone (now (bytes .entry)) (now (ends .entry)) (now (schema .entry)) (now (alone .exit)) (now (nothing .exit)) rows) ⌝ }
+    ensures { λ _. ⌜ (SchemaPasses (length (now (ends .entry))) (now (schema .entry)) → Alone (stringTable (now (bytes .entry)) (now (ends .entry))) (now (schema .entry)) (now (alone .exit)) (now (nothing .exit)) rows) ⌝ }
 {
     let mut leads = [0u8; 512];
     fill_leads(bytes, ends, &mut leads);
@@ -332,7 +333,7 @@ fn fill_rows(
 }
 
 fn blank_at(bytes: &[u8], ends: &[u32], k: u32) -> u8
-    ensures { λ r. ⌜ (r ≡ 1) ↔ (whitespace (textOf (now (bytes .entry)) (now (ends .entry)) k) ≡ true) ⌝ }
+    ensures { λ r. ⌜ (r ≡ 1) ↔ (whitespace (textOf (stringTable (now (bytes .entry)) (now (ends .entry))) k) ≡ true) ⌝ }
 {
     let text = strings::text(bytes, ends, k as usize);
     if datatypes::is_whitespace(text) {
@@ -344,7 +345,7 @@ fn blank_at(bytes: &[u8], ends: &[u32], k: u32) -> u8
 // The strings that are whitespace.
 fn fill_blank(bytes: &[u8], ends: &[u32], blank: &mut [u8])
     requires { ⌜ (length (now ends) ≤ 512) × (512 ≤ length (now blank)) ⌝ }
-    ensures { λ _. ⌜ Blank (now (bytes .entry)) (now (ends .entry)) (now (blank .exit)) ⌝ }
+    ensures { λ _. ⌜ Blank (stringTable (now (bytes .entry)) (now (ends .entry))) (now (blank .exit)) ⌝ }
 {
     let mut k: u32 = 0;
     while (k as usize) < ends.len() {
@@ -354,7 +355,7 @@ fn fill_blank(bytes: &[u8], ends: &[u32], blank: &mut [u8])
     }
 }
 
-// The three tables of a schema that passes; nothing is promised of a table that is too short.
+// The three tables of a schema that passes.
 pub fn fill(
     bytes: &[u8],
     ends: &[u32],
@@ -363,24 +364,9 @@ pub fn fill(
     nothing: &mut [u8],
     blank: &mut [u8],
 )
-    ensures { λ _. ⌜ (Ready (now (ends .entry)) (now (schema .entry)) (now (alone .entry)) (now (nothing .entry)) (now (blank .entry)) → Filled (now (bytes .entry)) (now (ends .entry)) (now (schema .entry)) (now (alone .exit)) (now (nothing .exit)) (now (blank .exit))) ⌝ }
+    requires { ⌜ Ready (stringTable (now bytes) (now ends)) (now schema) (now alone) (now nothing) (now blank) ⌝ }
+    ensures { λ _. ⌜ Filled (stringTable (now (bytes .entry)) (now (ends .entry))) (now (schema .entry)) (now (alone .exit)) (now (nothing .exit)) (now (blank .exit)) ⌝ }
 {
-    if 512 < ends.len() {
-        return;
-    }
-    if alone.len() < 262144 {
-        return;
-    }
-    if nothing.len() < 512 {
-        return;
-    }
-    if blank.len() < 512 {
-        return;
-    }
-    let rows = schema.len() / 3;
-    if 512 < rows {
-        return;
-    }
     fill_blank(bytes, ends, blank);
-    fill_rows(bytes, ends, schema, alone, nothing, rows as u32);
+    fill_rows(bytes, ends, schema, alone, nothing, (schema.len() / 3) as u32);
 }

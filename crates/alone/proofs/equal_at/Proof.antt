@@ -1,4 +1,5 @@
 -- Another lead is another value.
+use Rattle.tables.specs.Tables.{stringTable}
 use Rattle.alone.proofs.Leads.{not-equal}
 use Rattle.strings.specs.Strings.{textOf}
 use denote.Ref.{now}
@@ -12,7 +13,7 @@ byte-requires : tie.Need-byte-requires
 byte-requires c κs = search needs
 
 returns : tie.Need-returns
-returns c = not-equal (c .before .before .before .before .before .before .args .datatype) (textOf (now (c .before .before .before .before .before .before .args .bytes)) (now (c .before .before .before .before .before .before .args .ends)) (c .before .before .before .before .before .before .args .k)) (now (c .before .before .before .before .before .before .args .own)) (c .before .byte .ensures ∙ c .before .before .before .before .before .before .pre .1) (c .before .before .before .before .before .before .pre .0) (λ z. omega arith)
+returns c = not-equal (c .before .before .before .before .before .before .args .datatype) (textOf (stringTable (now (c .before .before .before .before .before .before .args .bytes)) (now (c .before .before .before .before .before .before .args .ends))) (c .before .before .before .before .before .before .args .k)) (now (c .before .before .before .before .before .before .args .own)) (c .before .byte .ensures ∙ c .before .before .before .before .before .before .pre .1) (c .before .before .before .before .before .before .pre .0) (λ z. omega arith)
 
 text-requires : tie.Need-text-requires
 text-requires c κs = search needs

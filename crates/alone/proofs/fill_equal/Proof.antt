@@ -1,4 +1,5 @@
 -- The first k entries are told by the texts.
+use Rattle.tables.specs.Tables.{stringTable}
 use Rattle.alone.proofs.Filling.{row-none, row-more, row-less}
 use Rattle.alone.specs.Rows.{EqualTo, RowOf}
 use lib.ListN.{length}
@@ -9,7 +10,7 @@ use Rattle.alone.proofs.fill_equal.Statement.{statement}
 use Rattle.alone.proofs.fill_equal.Tie as tie
 
 abbrev Inv-loop : tie.InvT-loop
-Inv-loop bytes ends leads alone₀ p datatype v own first to k₀ alone k = (k ≤ length ends) × RowOf (EqualTo bytes ends datatype v) alone₀ alone p k
+Inv-loop bytes ends leads alone₀ p datatype v own first to k₀ alone k = (k ≤ length ends) × RowOf (EqualTo (stringTable bytes ends) datatype v) alone₀ alone p k
 
 abbrev μ-loop : tie.MeasureT-loop
 μ-loop bytes ends leads alone₀ p datatype v own first to k₀ alone k = length ends - k

@@ -1,4 +1,5 @@
 -- One law a kind.
+use Rattle.tables.specs.Tables.{stringTable}
 use Rattle.alone.proofs.RowKinds.{made-text, made-data, made-oneOrMore, made-choice, made-group, made-interleave, made-rest}
 use mathlib.Core.Path.{sym, _∙_}
 use denote.Ref.{now}
@@ -43,13 +44,13 @@ same-length : tie.Need-same-length
 same-length c = search needs
 
 returns : tie.Need-returns
-returns c = made-text (now (c .before .before .before .before .before .before .before .before .before .before .before .before .before .before .args .bytes)) (now (c .before .before .before .before .before .before .before .before .before .before .before .before .before .before .args .ends)) (now (c .before .before .before .before .before .before .before .before .before .before .before .before .before .before .args .schema)) (now (c .before .before .before .before .before .before .before .before .before .before .before .before .before .before .args .alone)) (now (c .before .before .before .before .before .before .before .before .before .before .before .before .before .before .args .nothing)) (c .before .before .before .before .before .before .before .before .before .before .before .before .before .before .args .p) (sym (c .before .before .before .before .before .before .before .kind .ensures) ∙ c .before .before .before .before .match .keys1) (c .before .before .fill-same .ensures)
+returns c = made-text (stringTable (now (c .before .before .before .before .before .before .before .before .before .before .before .before .before .before .args .bytes)) (now (c .before .before .before .before .before .before .before .before .before .before .before .before .before .before .args .ends))) (now (c .before .before .before .before .before .before .before .before .before .before .before .before .before .before .args .schema)) (now (c .before .before .before .before .before .before .before .before .before .before .before .before .before .before .args .alone)) (now (c .before .before .before .before .before .before .before .before .before .before .before .before .before .before .args .nothing)) (c .before .before .before .before .before .before .before .before .before .before .before .before .before .before .args .p) (sym (c .before .before .before .before .before .before .before .kind .ensures) ∙ c .before .before .before .before .match .keys1) (c .before .before .fill-same .ensures)
 
 same-length-2 : tie.Need-same-length-2
 same-length-2 c = search needs
 
 returns-2 : tie.Need-returns-2
-returns-2 c = made-data (now (c .before .before .before .before .before .before .before .before .before .before .before .before .before .before .args .bytes)) (now (c .before .before .before .before .before .before .before .before .before .before .before .before .before .before .args .ends)) (now (c .before .before .before .before .before .before .before .before .before .before .before .before .before .before .args .schema)) (now (c .before .before .before .before .before .before .before .before .before .before .before .before .before .before .args .alone)) (now (c .before .before .before .before .before .before .before .before .before .before .before .before .before .before .args .nothing)) (c .before .before .before .before .before .before .before .before .before .before .before .before .before .before .args .p) (c .before .before .before .before .before .before .field-a .ensures) (c .before .before .before .before .before .field-b .ensures) (sym (c .before .before .before .before .before .before .before .kind .ensures) ∙ c .before .before .before .before .match .keys2) (c .before .before .fill-data .ensures)
+returns-2 c = made-data (stringTable (now (c .before .before .before .before .before .before .before .before .before .before .before .before .before .before .args .bytes)) (now (c .before .before .before .before .before .before .before .before .before .before .before .before .before .before .args .ends))) (now (c .before .before .before .before .before .before .before .before .before .before .before .before .before .before .args .schema)) (now (c .before .before .before .before .before .before .before .before .before .before .before .before .before .before .args .alone)) (now (c .before .before .before .before .before .before .before .before .before .before .before .before .before .before .args .nothing)) (c .before .before .before .before .before .before .before .before .before .before .before .before .before .before .args .p) (c .before .before .before .before .before .before .field-a .ensures) (c .before .before .before .before .before .field-b .ensures) (sym (c .before .before .before .before .before .before .before .kind .ensures) ∙ c .before .before .before .before .match .keys2) (c .before .before .fill-data .ensures)
 
 same-length-3 : tie.Need-same-length-3
 same-length-3 c = search needs
@@ -61,31 +62,31 @@ same-length-4 : tie.Need-same-length-4
 same-length-4 c = search needs
 
 returns-4 : tie.Need-returns-4
-returns-4 c = made-oneOrMore (now (c .before .before .before .before .before .before .before .before .before .before .before .before .before .before .args .bytes)) (now (c .before .before .before .before .before .before .before .before .before .before .before .before .before .before .args .ends)) (now (c .before .before .before .before .before .before .before .before .before .before .before .before .before .before .args .schema)) (now (c .before .before .before .before .before .before .before .before .before .before .before .before .before .before .args .alone)) (now (c .before .before .before .before .before .before .before .before .before .before .before .before .before .before .args .nothing)) (c .before .before .before .before .before .before .before .before .before .before .before .before .before .before .args .p) (c .before .before .before .before .before .before .field-a .ensures) (c .before .before .before .before .before .field-b .ensures) (sym (c .before .before .before .before .before .before .before .kind .ensures) ∙ c .before .before .before .before .match .keys4) (c .before .before .fill-either .ensures)
+returns-4 c = made-oneOrMore (stringTable (now (c .before .before .before .before .before .before .before .before .before .before .before .before .before .before .args .bytes)) (now (c .before .before .before .before .before .before .before .before .before .before .before .before .before .before .args .ends))) (now (c .before .before .before .before .before .before .before .before .before .before .before .before .before .before .args .schema)) (now (c .before .before .before .before .before .before .before .before .before .before .before .before .before .before .args .alone)) (now (c .before .before .before .before .before .before .before .before .before .before .before .before .before .before .args .nothing)) (c .before .before .before .before .before .before .before .before .before .before .before .before .before .before .args .p) (c .before .before .before .before .before .before .field-a .ensures) (c .before .before .before .before .before .field-b .ensures) (sym (c .before .before .before .before .before .before .before .kind .ensures) ∙ c .before .before .before .before .match .keys4) (c .before .before .fill-either .ensures)
 
 same-length-5 : tie.Need-same-length-5
 same-length-5 c = search needs
 
 returns-5 : tie.Need-returns-5
-returns-5 c = made-choice (now (c .before .before .before .before .before .before .before .before .before .before .before .before .before .before .args .bytes)) (now (c .before .before .before .before .before .before .before .before .before .before .before .before .before .before .args .ends)) (now (c .before .before .before .before .before .before .before .before .before .before .before .before .before .before .args .schema)) (now (c .before .before .before .before .before .before .before .before .before .before .before .before .before .before .args .alone)) (now (c .before .before .before .before .before .before .before .before .before .before .before .before .before .before .args .nothing)) (c .before .before .before .before .before .before .before .before .before .before .before .before .before .before .args .p) (c .before .before .before .before .before .before .field-a .ensures) (c .before .before .before .before .before .field-b .ensures) (sym (c .before .before .before .before .before .before .before .kind .ensures) ∙ c .before .before .before .before .match .keys5) (c .before .before .fill-either2 .ensures)
+returns-5 c = made-choice (stringTable (now (c .before .before .before .before .before .before .before .before .before .before .before .before .before .before .args .bytes)) (now (c .before .before .before .before .before .before .before .before .before .before .before .before .before .before .args .ends))) (now (c .before .before .before .before .before .before .before .before .before .before .before .before .before .before .args .schema)) (now (c .before .before .before .before .before .before .before .before .before .before .before .before .before .before .args .alone)) (now (c .before .before .before .before .before .before .before .before .before .before .before .before .before .before .args .nothing)) (c .before .before .before .before .before .before .before .before .before .before .before .before .before .before .args .p) (c .before .before .before .before .before .before .field-a .ensures) (c .before .before .before .before .before .field-b .ensures) (sym (c .before .before .before .before .before .before .before .kind .ensures) ∙ c .before .before .before .before .match .keys5) (c .before .before .fill-either2 .ensures)
 
 same-length-6 : tie.Need-same-length-6
 same-length-6 c = search needs
 
 returns-6 : tie.Need-returns-6
-returns-6 c = made-group (now (c .before .before .before .before .before .before .before .before .before .before .before .before .before .before .args .bytes)) (now (c .before .before .before .before .before .before .before .before .before .before .before .before .before .before .args .ends)) (now (c .before .before .before .before .before .before .before .before .before .before .before .before .before .before .args .schema)) (now (c .before .before .before .before .before .before .before .before .before .before .before .before .before .before .args .alone)) (now (c .before .before .before .before .before .before .before .before .before .before .before .before .before .before .args .nothing)) (c .before .before .before .before .before .before .before .before .before .before .before .before .before .before .args .p) (c .before .before .before .before .before .before .field-a .ensures) (c .before .before .before .before .before .field-b .ensures) (sym (c .before .before .before .before .before .before .before .kind .ensures) ∙ c .before .before .before .before .match .keys6) (c .before .before .fill-one .ensures)
+returns-6 c = made-group (stringTable (now (c .before .before .before .before .before .before .before .before .before .before .before .before .before .before .args .bytes)) (now (c .before .before .before .before .before .before .before .before .before .before .before .before .before .before .args .ends))) (now (c .before .before .before .before .before .before .before .before .before .before .before .before .before .before .args .schema)) (now (c .before .before .before .before .before .before .before .before .before .before .before .before .before .before .args .alone)) (now (c .before .before .before .before .before .before .before .before .before .before .before .before .before .before .args .nothing)) (c .before .before .before .before .before .before .before .before .before .before .before .before .before .before .args .p) (c .before .before .before .before .before .before .field-a .ensures) (c .before .before .before .before .before .field-b .ensures) (sym (c .before .before .before .before .before .before .before .kind .ensures) ∙ c .before .before .before .before .match .keys6) (c .before .before .fill-one .ensures)
 
 same-length-7 : tie.Need-same-length-7
 same-length-7 c = search needs
 
 returns-7 : tie.Need-returns-7
-returns-7 c = made-interleave (now (c .before .before .before .before .before .before .before .before .before .before .before .before .before .before .args .bytes)) (now (c .before .before .before .before .before .before .before .before .before .before .before .before .before .before .args .ends)) (now (c .before .before .before .before .before .before .before .before .before .before .before .before .before .before .args .schema)) (now (c .before .before .before .before .before .before .before .before .before .before .before .before .before .before .args .alone)) (now (c .before .before .before .before .before .before .before .before .before .before .before .before .before .before .args .nothing)) (c .before .before .before .before .before .before .before .before .before .before .before .before .before .before .args .p) (c .before .before .before .before .before .before .field-a .ensures) (c .before .before .before .before .before .field-b .ensures) (sym (c .before .before .before .before .before .before .before .kind .ensures) ∙ c .before .before .before .before .match .keys7) (c .before .before .fill-one2 .ensures)
+returns-7 c = made-interleave (stringTable (now (c .before .before .before .before .before .before .before .before .before .before .before .before .before .before .args .bytes)) (now (c .before .before .before .before .before .before .before .before .before .before .before .before .before .before .args .ends))) (now (c .before .before .before .before .before .before .before .before .before .before .before .before .before .before .args .schema)) (now (c .before .before .before .before .before .before .before .before .before .before .before .before .before .before .args .alone)) (now (c .before .before .before .before .before .before .before .before .before .before .before .before .before .before .args .nothing)) (c .before .before .before .before .before .before .before .before .before .before .before .before .before .before .args .p) (c .before .before .before .before .before .before .field-a .ensures) (c .before .before .before .before .before .field-b .ensures) (sym (c .before .before .before .before .before .before .before .kind .ensures) ∙ c .before .before .before .before .match .keys7) (c .before .before .fill-one2 .ensures)
 
 same-length-8 : tie.Need-same-length-8
 same-length-8 c = search needs
 
 returns-8 : tie.Need-returns-8
-returns-8 c = made-rest (now (c .before .before .before .before .before .before .before .before .before .before .before .before .before .before .args .bytes)) (now (c .before .before .before .before .before .before .before .before .before .before .before .before .before .before .args .ends)) (now (c .before .before .before .before .before .before .before .before .before .before .before .before .before .before .args .schema)) (now (c .before .before .before .before .before .before .before .before .before .before .before .before .before .before .args .alone)) (now (c .before .before .before .before .before .before .before .before .before .before .before .before .before .before .args .nothing)) (c .before .before .before .before .before .before .before .before .before .before .before .before .before .before .args .p) (record { no-text = (λ e. c .before .before .before .before .match .rest .0 .0 .0 .0 .0 .0 .1 (c .before .before .before .before .before .before .before .kind .ensures ∙ e)); no-repeat = (λ e. c .before .before .before .before .match .rest .0 .0 .0 .1 (c .before .before .before .before .before .before .before .kind .ensures ∙ e)); no-choice = (λ e. c .before .before .before .before .match .rest .0 .0 .1 (c .before .before .before .before .before .before .before .kind .ensures ∙ e)); no-group = (λ e. c .before .before .before .before .match .rest .0 .1 (c .before .before .before .before .before .before .before .kind .ensures ∙ e)); no-interleave = (λ e. c .before .before .before .before .match .rest .1 (c .before .before .before .before .before .before .before .kind .ensures ∙ e)) }) (λ e. c .before .before .before .before .match .rest .0 .0 .0 .0 .0 .1 (c .before .before .before .before .before .before .before .kind .ensures ∙ e)) (λ e. c .before .before .before .before .match .rest .0 .0 .0 .0 .1 (c .before .before .before .before .before .before .before .kind .ensures ∙ e)) (c .before .before .fill-same2 .ensures)
+returns-8 c = made-rest (stringTable (now (c .before .before .before .before .before .before .before .before .before .before .before .before .before .before .args .bytes)) (now (c .before .before .before .before .before .before .before .before .before .before .before .before .before .before .args .ends))) (now (c .before .before .before .before .before .before .before .before .before .before .before .before .before .before .args .schema)) (now (c .before .before .before .before .before .before .before .before .before .before .before .before .before .before .args .alone)) (now (c .before .before .before .before .before .before .before .before .before .before .before .before .before .before .args .nothing)) (c .before .before .before .before .before .before .before .before .before .before .before .before .before .before .args .p) (record { no-text = (λ e. c .before .before .before .before .match .rest .0 .0 .0 .0 .0 .0 .1 (c .before .before .before .before .before .before .before .kind .ensures ∙ e)); no-repeat = (λ e. c .before .before .before .before .match .rest .0 .0 .0 .1 (c .before .before .before .before .before .before .before .kind .ensures ∙ e)); no-choice = (λ e. c .before .before .before .before .match .rest .0 .0 .1 (c .before .before .before .before .before .before .before .kind .ensures ∙ e)); no-group = (λ e. c .before .before .before .before .match .rest .0 .1 (c .before .before .before .before .before .before .before .kind .ensures ∙ e)); no-interleave = (λ e. c .before .before .before .before .match .rest .1 (c .before .before .before .before .before .before .before .kind .ensures ∙ e)) }) (λ e. c .before .before .before .before .match .rest .0 .0 .0 .0 .0 .1 (c .before .before .before .before .before .before .before .kind .ensures ∙ e)) (λ e. c .before .before .before .before .match .rest .0 .0 .0 .0 .1 (c .before .before .before .before .before .before .before .kind .ensures ∙ e)) (c .before .before .fill-same2 .ensures)
 
 pub fill-row-spec : {M : Type 1} → statement M
 fill-row-spec =

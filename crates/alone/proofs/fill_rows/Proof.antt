@@ -1,5 +1,6 @@
 -- The rows below p are right.
 use Prim.Native.Nat.{ℕ, _-_, _≤_}
+use Rattle.tables.specs.Tables.{stringTable}
 use Rattle.alone.proofs.Filling.{rows-none, rows-more}
 use Rattle.alone.specs.Alone.{Alone}
 use Rattle.restrictions.specs.Schema.{SchemaPasses}
@@ -12,7 +13,7 @@ use Rattle.alone.proofs.fill_rows.Statement.{statement}
 use Rattle.alone.proofs.fill_rows.Tie as tie
 
 abbrev Inv-loop : tie.InvT-loop
-Inv-loop bytes ends schema alone₀ nothing₀ rows leads noted₀ p₀ alone nothing noted p = (p ≤ rows) × (length alone ≡ length alone₀) × (length nothing ≡ length nothing₀) × (SchemaPasses (length ends) schema → Alone bytes ends schema alone nothing p)
+Inv-loop bytes ends schema alone₀ nothing₀ rows leads noted₀ p₀ alone nothing noted p = (p ≤ rows) × (length alone ≡ length alone₀) × (length nothing ≡ length nothing₀) × (SchemaPasses (length ends) schema → Alone (stringTable bytes ends) schema alone nothing p)
 
 abbrev μ-loop : tie.MeasureT-loop
 μ-loop bytes ends schema alone₀ nothing₀ rows leads noted₀ p₀ alone nothing noted p = rows - p
@@ -57,7 +58,7 @@ same-length-2 : tie.Need-same-length-2 Inv-loop μ-loop
 same-length-2 c = c .before .loop .inv .2
 
 returns : tie.Need-returns Inv-loop μ-loop
-returns c = let i = c .before .loop .inv in let x = i .0 in λ u. subst (λ (n : ℕ). Alone (now (c .before .before .before .before .before .before .before .before .before .before .args .bytes)) (now (c .before .before .before .before .before .before .before .before .before .before .args .ends)) (now (c .before .before .before .before .before .before .before .before .before .before .args .schema)) (c .before .loop .alone) (c .before .loop .nothing) n) (omega arith) (i .3 u)
+returns c = let i = c .before .loop .inv in let x = i .0 in λ u. subst (λ (n : ℕ). Alone (stringTable (now (c .before .before .before .before .before .before .before .before .before .before .args .bytes)) (now (c .before .before .before .before .before .before .before .before .before .before .args .ends))) (now (c .before .before .before .before .before .before .before .before .before .before .args .schema)) (c .before .loop .alone) (c .before .loop .nothing) n) (omega arith) (i .3 u)
 
 pub fill-rows-spec : {M : Type 1} → statement M
 fill-rows-spec =
