@@ -9,7 +9,8 @@ use lib.Bits.{bitAnd}
 use lib.Dec.{eqb}
 use lib.ListN.{length, getD}
 use borrow.Author.Tests.{eqb-true, eq-eqb}
-use Rattle.strings.specs.Strings.{textOf}
+use Rattle.tables.specs.Tables.{Tables}
+use Rattle.strings.specs.Strings.{textOf, instanceStrings}
 use Rattle.datatypes.specs.Whitespace.{whitespace}
 use Rattle.schema.specs.Kinds as kind
 use Rattle.schema.specs.Rows.{rowsOf, kindOf, aOf, bOf}
@@ -29,11 +30,10 @@ use Rattle.rules.specs.Reach.{Part, of-attribute}
 use Rattle.rules.proofs.RowPatterns.{row-makes}
 use Rattle.alone.specs.Alone.{entry}
 use Rattle.marks.specs.Given.{itemAt, pairEntry, Given}
-use Rattle.marks.specs.Marks.{attributeRow, Takes, IsPaired, TakesAttribute}
-use Rattle.marks.specs.Marks.{LeafWord}
+use Rattle.marks.specs.Marks.{attributeRow, Takes, IsPaired, TakesAttribute, LeafWord}
 use Rattle.marks.specs.Tests.{hasName, valueFits, stringAlone, elementPaired, attributeNamed, attributeFits, Collects}
 use Rattle.marks.proofs.Collecting.{collected}
-use Rattle.marks.proofs.RowKinds.{StringPattern, of-text, of-data, of-except, of-value, string-made, taker-kinds, from-attribute, attribute-at, ref-at, ref-row}
+use Rattle.marks.proofs.RowKinds.{StringPattern, of-text, of-string, string-made, taker-kinds, from-attribute, attribute-at, ref-at, ref-row}
 
 -- an entry is 1 exactly where its test says so
 pub entry-test : {A : Type 0} (n : ℕ) → (n ≡ 1) ↔ A → (eqb n 1 ≡ true) ↔ A
@@ -43,57 +43,56 @@ module _ (L : Lookups) where
   abbrev NotMatch : List ℕ → ℕ → Type 0
   NotMatch = NotMatchBy L (L .rows)
 
-  the-string : (P : List ℕ → Type 0) {v : List ℕ} → One P (string v ∷ []) → P v
-  the-string P {v} o = let e : o .0 ≡ v = (let f = o .1 in cc) in subst P e (o .2)
-
   -- a string alone matches a pattern that takes strings as Takes says; no element is taken
   pub string-takes : {x : Pattern} → StringPattern x → (v : List ℕ) → Match L NotMatch none (string v ∷ []) x ↔ Takes L x (string v)
   string-takes of-text v = (λ d. tt, λ u. text-2 v text-1)
-  string-takes of-data v = (λ d. tt, λ u. data-1)
-  string-takes (of-except {q = q}) v = (λ d. the-string (λ u. NotMatch u q) (step L NotMatch d .1), λ n. data-2 n)
-  string-takes (of-value {t} {k}) v = (λ d. the-string (λ u. L .Equal t u (L .text k)) (step L NotMatch d .1), λ n. rule.value n)
+  string-takes (of-string e) v = rw e (λ d. d, λ d. d)
 
   pub element-not-taken : {x : Pattern} → StringPattern x → (e : ℕ) → ¬ Takes L x (element e)
   element-not-taken of-text e z = z
-  element-not-taken of-data e z = z
-  element-not-taken of-except e z = z
-  element-not-taken of-value e z = z
+  element-not-taken (of-string i) e z = rw i at z
 
-module _ {bytes ends s t alone nothing blank pairs items : List ℕ} {e attributes texts : ℕ} (g : Given bytes ends s t alone nothing blank pairs items e attributes texts) where
+module _ {J : Tables} {alone nothing blank pairs items : List ℕ} {e attributes texts : ℕ} (g : Given J alone nothing blank pairs items e attributes texts) where
+  abbrev s : List ℕ
+  s = J .schema
+
+  abbrev t : List ℕ
+  t = J .instance
+
   abbrev L : Lookups
-  L = lookups bytes ends s t
+  L = lookups J
 
   abbrev Not : List ℕ → ℕ → Type 0
   Not = NotMatchBy L (rowsOf s)
 
   abbrev Leaf : ℕ → ℕ → Type 0
-  Leaf = LeafWord bytes ends s t e attributes (itemAt bytes ends items texts) (length items)
+  Leaf = LeafWord J e attributes (itemAt (J .strings) items texts) (length items)
 
   -- the weak matches of an attribute's value
-  value-fits : (q v : ℕ) → q < rowsOf s → v < length ends → (valueFits alone nothing blank q v ≡ true) ↔ WeakMatch L Not none (string (textOf bytes ends v) ∷ []) (patternOf s q)
+  value-fits : (q v : ℕ) → q < rowsOf s → v < instanceStrings (J .strings) → (valueFits alone nothing blank q v ≡ true) ↔ WeakMatch L Not none (string (textOf (J .strings) v) ∷ []) (patternOf s q)
   value-fits q v h l = (to, from)
     where
-      weakly : WeakMatch L Not none (string (textOf bytes ends v) ∷ []) (patternOf s q)
-          ↔ (Match L Not none (string (textOf bytes ends v) ∷ []) (patternOf s q) ⊎ ((whitespace (textOf bytes ends v) ≡ true) × Match L Not none [] (patternOf s q)))
-      weakly = weak-string L Not none (patternOf s q) (textOf bytes ends v)
+      weakly : WeakMatch L Not none (string (textOf (J .strings) v) ∷ []) (patternOf s q)
+          ↔ (Match L Not none (string (textOf (J .strings) v) ∷ []) (patternOf s q) ⊎ ((whitespace (textOf (J .strings) v) ≡ true) × Match L Not none [] (patternOf s q)))
+      weakly = weak-string L Not none (patternOf s q) (textOf (J .strings) v)
 
-      by-string : (eqb (entry alone q v) 1 ≡ true) ↔ Match L Not none (string (textOf bytes ends v) ∷ []) (patternOf s q)
+      by-string : (eqb (entry alone q v) 1 ≡ true) ↔ Match L Not none (string (textOf (J .strings) v) ∷ []) (patternOf s q)
       by-string = entry-test (entry alone q v) (g .alone-right .strings t q v h l)
 
-      is-blank : (eqb (getD blank v 0) 1 ≡ true) ↔ (whitespace (textOf bytes ends v) ≡ true)
+      is-blank : (eqb (getD blank v 0) 1 ≡ true) ↔ (whitespace (textOf (J .strings) v) ≡ true)
       is-blank = entry-test (getD blank v 0) (g .blank-right v l)
 
       by-nothing : (eqb (getD nothing q 0) 1 ≡ true) ↔ Match L Not none [] (patternOf s q)
       by-nothing = entry-test (getD nothing q 0) (g .alone-right .empty t q h)
 
-      to : valueFits alone nothing blank q v ≡ true → WeakMatch L Not none (string (textOf bytes ends v) ∷ []) (patternOf s q)
+      to : valueFits alone nothing blank q v ≡ true → WeakMatch L Not none (string (textOf (J .strings) v) ∷ []) (patternOf s q)
       to u =
           weakly .1
           (⊎-elim (λ i. inl (by-string .0 i))
           (λ i. inr (is-blank .0 (and-left (eqb (getD blank v 0) 1) (eqb (getD nothing q 0) 1) i), by-nothing .0 (and-right (eqb (getD blank v 0) 1) (eqb (getD nothing q 0) 1) i)))
           (or-either (eqb (entry alone q v) 1) (eqb (getD blank v 0) 1 && eqb (getD nothing q 0) 1) u))
 
-      from : WeakMatch L Not none (string (textOf bytes ends v) ∷ []) (patternOf s q) → valueFits alone nothing blank q v ≡ true
+      from : WeakMatch L Not none (string (textOf (J .strings) v) ∷ []) (patternOf s q) → valueFits alone nothing blank q v ≡ true
       from w =
           ⊎-elim (λ d. or-left (eqb (getD blank v 0) 1 && eqb (getD nothing q 0) 1) (by-string .1 d))
           (λ d. or-right (eqb (entry alone q v) 1) (and-both (is-blank .1 (d .0)) (by-nothing .1 (d .1))))
@@ -110,10 +109,10 @@ module _ {bytes ends s t alone nothing blank pairs items : List ℕ} {e attribut
         is-string = string-made h l (row-makes s p refl)
 
         by-item : (k : ℕ) → k < length items → (b : Bool) → bit texts k ≡ b
-            → ((b && eqb (entry alone p (getD items k 0)) 1) ≡ true) ↔ Takes L (patternOf s p) (cond b (string (textOf bytes ends (getD items k 0))) (element (getD items k 0)))
+            → ((b && eqb (entry alone p (getD items k 0)) 1) ≡ true) ↔ Takes L (patternOf s p) (cond b (string (textOf (J .strings) (getD items k 0))) (element (getD items k 0)))
         by-item k i true f =
             let y = entry-test (entry alone p (getD items k 0)) (g .alone-right .strings t p (getD items k 0) row (g .strings k i f)) in
-            let z = string-takes L is-string (textOf bytes ends (getD items k 0)) in
+            let z = string-takes L is-string (textOf (J .strings) (getD items k 0)) in
             (λ u. z .0 (y .0 u), λ u. y .1 (z .1 u))
         by-item k i false f = (λ u. absurd (false≢true u), λ u. absurd (element-not-taken L is-string (getD items k 0) u))
 
@@ -124,7 +123,7 @@ module _ {bytes ends s t alone nothing blank pairs items : List ℕ} {e attribut
     }
       where
         by-item : (k : ℕ) → k < length items → (b : Bool) → bit texts k ≡ b
-            → ((not b && eqb (pairEntry pairs (getD items k 0) (aOf s p)) 1) ≡ true) ↔ IsPaired L (aOf s p) (cond b (string (textOf bytes ends (getD items k 0))) (element (getD items k 0)))
+            → ((not b && eqb (pairEntry pairs (getD items k 0) (aOf s p)) 1) ≡ true) ↔ IsPaired L (aOf s p) (cond b (string (textOf (J .strings) (getD items k 0))) (element (getD items k 0)))
         by-item k i true h = (λ u. absurd (false≢true u), λ u. absurd u)
         by-item k i false h = entry-test (pairEntry pairs (getD items k 0) (aOf s p)) (g .elements k (aOf s p) i h (ref-row (g .passes .rows) p f))
 
@@ -136,7 +135,7 @@ module _ {bytes ends s t alone nothing blank pairs items : List ℕ} {e attribut
     }
       where
         below : bOf s p < rowsOf s
-        below = let l = restricted (g .passes) bytes ends t .falls p (bOf s p) (subst (Part (bOf s p)) (sym (attribute-at s p f)) of-attribute) in omega arith
+        below = let l = restricted J (g .passes) .falls p (bOf s p) (subst (Part (bOf s p)) (sym (attribute-at s p f)) of-attribute) in omega arith
 
         by-value : (x : ℕ) → x < attributes
             → ((hasName s t (aOf s p) (attributeRow e x) && valueFits alone nothing blank (bOf s p) (node.cOf t (attributeRow e x))) ≡ true) ↔ TakesAttribute L (aOf s p) (bOf s p) (attributeRow e x)

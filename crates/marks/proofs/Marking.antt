@@ -10,6 +10,7 @@ use lib.Dec.{leb}
 use lib.ListN.{length, getD, set}
 use lib.Seq.{getD-set-same, getD-set-other}
 use borrow.Author.Tests.{le-leb, lt-leb, leb-true}
+use Rattle.tables.specs.Tables.{Tables}
 use Rattle.tables.proofs.Numbers.{not-less}
 use Rattle.schema.specs.Relations.{connective, Child, by-a, by-b, Occurs, itself, within}
 use Rattle.schema.specs.RowRule.{RowsRight}
@@ -81,15 +82,18 @@ put-same P words n v h x = rw (getD-set-same words n v 0 h) x
 put-other : (P : ℕ → Type 0) (words : List ℕ) (n r v : ℕ) → r ≢ n → P (getD words r 0) → P (getD (set words n v) r 0)
 put-other P words n r v f x = rw (getD-set-other words n r v 0 (λ e. f (omega arith))) x
 
-module _ (bytes ends s t : List ℕ) (e attributes : ℕ) (it : ℕ → Item) (items : ℕ) where
+module _ (J : Tables) (e attributes : ℕ) (it : ℕ → Item) (items : ℕ) where
+  abbrev s : List ℕ
+  s = J .schema
+
   abbrev Row : (marks named taken single : List ℕ) → ℕ → Type 0
-  Row = RowMarked bytes ends s t e attributes it items
+  Row = RowMarked J e attributes it items
 
   abbrev Pattern : (marks named taken single : List ℕ) → ℕ → Type 0
-  Pattern = PatternMarked bytes ends s t e attributes it items
+  Pattern = PatternMarked J e attributes it items
 
   abbrev Stay : (marks₀ named₀ taken₀ single₀ marks named taken single : List ℕ) → Type 0
-  Stay = StayMarked bytes ends s t e attributes it items
+  Stay = StayMarked J e attributes it items
 
   pub stays-same : {marks named taken single : List ℕ} → Stay marks named taken single marks named taken single
   stays-same = record { stays = λ q m. m }
@@ -97,25 +101,25 @@ module _ (bytes ends s t : List ℕ) (e attributes : ℕ) (it : ℕ → Item) (i
   module _ (marks named taken single : List ℕ) (p u v w x : ℕ) where
     -- right words are stored at row p: it is marked then, and so is every row that was
     pub row-stored : p < length marks → p < length named → p < length taken → p < length single
-        → LeafWord bytes ends s t e attributes it items p u → NamedWord bytes ends s t e attributes p v → TakenWord bytes ends s t it items p w → SingleWord bytes ends s t e attributes p x
+        → LeafWord J e attributes it items p u → NamedWord J e attributes p v → TakenWord J it items p w → SingleWord J e attributes p x
         → Stay marks named taken single (set marks p u) (set named p v) (set taken p w) (set single p x) × Row (set marks p u) (set named p v) (set taken p w) (set single p x) p
     row-stored h₁ h₂ h₃ h₄ leaf name take only = (record { stays = λ q m. go q m (ℕ-discrete q p) }, new)
       where
         new : Row (set marks p u) (set named p v) (set taken p w) (set single p x) p
         new = record {
-          leaf = put-same (LeafWord bytes ends s t e attributes it items p) marks p u h₁ leaf;
-          names = put-same (NamedWord bytes ends s t e attributes p) named p v h₂ name;
-          takers = put-same (TakenWord bytes ends s t it items p) taken p w h₃ take;
-          singles = put-same (SingleWord bytes ends s t e attributes p) single p x h₄ only;
+          leaf = put-same (LeafWord J e attributes it items p) marks p u h₁ leaf;
+          names = put-same (NamedWord J e attributes p) named p v h₂ name;
+          takers = put-same (TakenWord J it items p) taken p w h₃ take;
+          singles = put-same (SingleWord J e attributes p) single p x h₄ only;
         }
 
         go : (q : ℕ) → Row marks named taken single q → Dec (q ≡ p) → Row (set marks p u) (set named p v) (set taken p w) (set single p x) q
         go q m (yes z) = subst (Row (set marks p u) (set named p v) (set taken p w) (set single p x)) (sym z) new
         go q m (no z) = record {
-          leaf = put-other (LeafWord bytes ends s t e attributes it items q) marks p q u z (m .leaf);
-          names = put-other (NamedWord bytes ends s t e attributes q) named p q v z (m .names);
-          takers = put-other (TakenWord bytes ends s t it items q) taken p q w z (m .takers);
-          singles = put-other (SingleWord bytes ends s t e attributes q) single p q x z (m .singles);
+          leaf = put-other (LeafWord J e attributes it items q) marks p q u z (m .leaf);
+          names = put-other (NamedWord J e attributes q) named p q v z (m .names);
+          takers = put-other (TakenWord J it items q) taken p q w z (m .takers);
+          singles = put-other (SingleWord J e attributes q) single p q x z (m .singles);
         }
 
   -- the rows in the operands of row p are marked, one operand after the other
@@ -138,7 +142,7 @@ module _ (bytes ends s t : List ℕ) (e attributes : ℕ) (it : ℕ → Item) (i
   module _ {marks₀ named₀ taken₀ single₀ marks₁ named₁ taken₁ single₁ marks named taken single : List ℕ} {strings : ℕ} (right : RowsRight strings s) (p : ℕ) where
     pub pattern-marked : Stay marks₀ named₀ taken₀ single₀ marks₁ named₁ taken₁ single₁ × ((q : ℕ) → Occurs s q p → q ≢ p → Row marks₁ named₁ taken₁ single₁ q)
         → (((r : ℕ) → Operand r (patternOf s p) → Row marks₁ named₁ taken₁ single₁ r) → Stay marks₁ named₁ taken₁ single₁ marks named taken single × Row marks named taken single p)
-        → Marking bytes ends s t e attributes it items marks₀ named₀ taken₀ single₀ marks named taken single p
+        → Marking J e attributes it items marks₀ named₀ taken₀ single₀ marks named taken single p
     pattern-marked below own = record {
       kept = record { stays = λ q m. done .0 .stays q (below .0 .stays q m) };
       pattern = record { rows = λ q o. at q o (ℕ-discrete q p) };

@@ -6,7 +6,8 @@ use mathlib.Core.List.{List}
 use Prim.Native.Nat.{ℕ, _≤_, _<_}
 use native.Mathlib.Omega.{arith}
 use lib.ListN.{length, getD}
-use Rattle.strings.specs.Strings.{textOf}
+use Rattle.tables.specs.Tables.{Tables}
+use Rattle.strings.specs.Strings.{textOf, schemaStrings}
 use Rattle.schema.specs.Kinds as kind
 use Rattle.schema.specs.Rows.{kindOf, aOf, bOf}
 use Rattle.schema.specs.Views.{Pattern, patternOf, attribute, ref}
@@ -16,38 +17,39 @@ use Rattle.rules.specs.Items.{Item, element, string, Lookups}
 use Rattle.rules.specs.Job.{lookups}
 use Rattle.rules.proofs.Booleans.{is-false}
 use Rattle.rules.proofs.KindTests.{attribute-made, ref-made}
-use Rattle.rules.specs.Reach.{Reaches, here, namesAttribute, namesElement, takes, takesString}
+use Rattle.rules.specs.Reach.{stringBy, elementBy, Reaches, here, namesAttribute, namesElement, takes, takesString}
 use Rattle.rules.proofs.RowPatterns.{Makes, row-makes}
 use Rattle.marks.specs.Answers.{AtOperands}
 use Rattle.marks.specs.Given.{itemAt}
-use Rattle.marks.specs.Marks.{attributeRow}
-use Rattle.marks.specs.Marks.{NamedWord, TakenWord}
+use Rattle.marks.specs.Marks.{attributeRow, NamedWord, TakenWord}
 use Rattle.marks.specs.Tests.{hasName, elementNamed, attributeNamed, Collects, joinedBy}
 use Rattle.marks.proofs.Collecting.{collected}
 use Rattle.marks.proofs.Operands.{reaches-itself, joined-reaches}
-use Rattle.marks.proofs.RowKinds.{StringPattern, of-text, of-data, of-except, of-value, string-made, string-kinds, operand-kinds, attribute-at, ref-at, ref-definition}
+use Rattle.marks.proofs.RowKinds.{StringPattern, of-text, of-string, string-made, string-kinds, operand-kinds, attribute-at, ref-at, ref-definition}
 
 -- a pattern that takes strings names no element
 string-taken : {x : Pattern} → StringPattern x → takesString x ≡ true
 string-taken of-text = refl
-string-taken of-data = refl
-string-taken of-except = refl
-string-taken of-value = refl
+string-taken (of-string e) = ap stringBy e
 
 string-no-name : (L : Lookups) (e : ℕ) {x : Pattern} → StringPattern x → namesElement L e x ≡ false
 string-no-name L e of-text = refl
-string-no-name L e of-data = refl
-string-no-name L e of-except = refl
-string-no-name L e of-value = refl
+string-no-name L e (of-string i) = ap (elementBy L e) i
 
 -- a row of another kind takes no item
 other-takes : (L : Lookups) {k a b : ℕ} {x : Pattern} → Makes k a b x → (3 ≤ k → ¬ (k < 6)) → k ≢ kind.ref → (y : Item) → takes L y x ≡ false
 other-takes L {x = x} m no-string no-ref (element u) = is-false (namesElement L u x) (λ h. no-ref (ref-made L u m h .0))
 other-takes L {x = x} m no-string no-ref (string v) = is-false (takesString x) (λ h. let i = string-kinds m h in no-string (i .0) (i .1))
 
-module _ (bytes ends s t : List ℕ) (pass : SchemaPasses (length ends) s) (p : ℕ) where
+module _ (J : Tables) (pass : SchemaPasses (schemaStrings (J .strings)) (J .schema)) (p : ℕ) where
+  abbrev s : List ℕ
+  s = J .schema
+
+  abbrev t : List ℕ
+  t = J .instance
+
   abbrev L : Lookups
-  L = lookups bytes ends s t
+  L = lookups J
 
   -- a leaf reaches itself alone
   leaf-reaches : {test : Pattern → Bool} {b : Bool} → kindOf s p < 9 → test (patternOf s p) ≡ b → (b ≡ true) ↔ Reaches L test (patternOf s p)
@@ -55,7 +57,7 @@ module _ (bytes ends s t : List ℕ) (pass : SchemaPasses (length ends) s) (p : 
 
   module _ (e attributes : ℕ) where
     abbrev Named : ℕ → ℕ → Type 0
-    Named = NamedWord bytes ends s t e attributes
+    Named = NamedWord J e attributes
 
     pub named-attribute : {w : ℕ} → kindOf s p ≡ kind.attribute → Collects (attributeNamed s t e (aOf s p)) attributes w → Named p w
     named-attribute f c x h = rw (collected c h) (leaf-reaches (omega arith) (ap (namesAttribute L (attributeRow e x)) (attribute-at s p f)))
@@ -68,7 +70,7 @@ module _ (bytes ends s t : List ℕ) (pass : SchemaPasses (length ends) s) (p : 
 
   module _ (items : List ℕ) (texts : ℕ) where
     abbrev Taken : ℕ → ℕ → Type 0
-    Taken = TakenWord bytes ends s t (itemAt bytes ends items texts) (length items)
+    Taken = TakenWord J (itemAt (J .strings) items texts) (length items)
 
     pub taken-strings : 3 ≤ kindOf s p → kindOf s p < 6 → Taken p texts
     taken-strings h l k i = leaf-reaches (omega arith) (by-item (bit texts k))
@@ -76,14 +78,14 @@ module _ (bytes ends s t : List ℕ) (pass : SchemaPasses (length ends) s) (p : 
         is-string : StringPattern (patternOf s p)
         is-string = string-made h l (row-makes s p refl)
 
-        by-item : (b : Bool) → takes L (cond b (string (textOf bytes ends (getD items k 0))) (element (getD items k 0))) (patternOf s p) ≡ b
+        by-item : (b : Bool) → takes L (cond b (string (textOf (J .strings) (getD items k 0))) (element (getD items k 0))) (patternOf s p) ≡ b
         by-item true = string-taken is-string
         by-item false = string-no-name L (getD items k 0) is-string
 
     pub taken-ref : {w : ℕ} → kindOf s p ≡ kind.ref → Collects (elementNamed s t items texts (aOf s (aOf s p))) (length items) w → Taken p w
     taken-ref f c k i = rw (collected c i) (leaf-reaches (omega arith) (by-item (bit texts k)))
       where
-        by-item : (b : Bool) → takes L (cond b (string (textOf bytes ends (getD items k 0))) (element (getD items k 0))) (patternOf s p) ≡ (not b && hasName s t (aOf s (aOf s p)) (getD items k 0))
+        by-item : (b : Bool) → takes L (cond b (string (textOf (J .strings) (getD items k 0))) (element (getD items k 0))) (patternOf s p) ≡ (not b && hasName s t (aOf s (aOf s p)) (getD items k 0))
         by-item true = rw (ref-at s p f)
         by-item false = rw (ref-at s p f, ref-definition (pass .rows) p f)
 
@@ -91,4 +93,4 @@ module _ (bytes ends s t : List ℕ) (pass : SchemaPasses (length ends) s) (p : 
         → w ≡ joinedBy (kindOf s p) (getD taken (aOf s p) 0) (getD taken (bOf s p) 0) → AtOperands s Taken taken p → Taken p w
     taken-other taken no-string no-ref q operands k h =
         let m = row-makes s p refl in
-        rw q (joined-reaches L taken k m (other-takes L m no-string no-ref (itemAt bytes ends items texts k)) (λ r o. operands r o k h))
+        rw q (joined-reaches L taken k m (other-takes L m no-string no-ref (itemAt (J .strings) items texts k)) (λ r o. operands r o k h))

@@ -1,35 +1,57 @@
 -- The pattern of a row by its kind, as the code takes kinds apart.
 use mathlib.Core.Path.{_≡_, refl}
-use mathlib.Core.Logic.{_⊎_, inl, inr}
-use mathlib.Core.Bool.{true, false≢true}
+use mathlib.Core.Logic.{_⊎_, inl, inr, ⊎-elim}
+use mathlib.Core.Bool.{true, _||_, false≢true}
 use mathlib.Core.List.{List}
 use Prim.Native.Nat.{ℕ, _≤_, _<_}
 use native.Mathlib.Omega.{arith}
 use native.Mathlib.Decide.{ℕ-discrete}
+use lib.Dec.{eqb}
+use borrow.Author.Tests.{eqb-true}
 use Rattle.schema.specs.Kinds as kind
 use Rattle.schema.specs.Rows.{rowsOf, kindOf, aOf, bOf, shapeOf, sortOf, isElement}
 use Rattle.schema.specs.RowRule.{RowsRight}
-use Rattle.schema.specs.Views.{Pattern, patternBy, patternOf, text, dataAll, dataExcept, value, attribute, ref, oneOrMore, choice}
+use Rattle.schema.specs.Views.{Pattern, patternBy, patternOf, text, attribute, ref, oneOrMore, choice}
 use Rattle.schema.proofs.Fields.{both-fields, is-text, is-data, is-value}
 use Rattle.schema.proofs.Sorts.{definition-kind}
-use Rattle.rules.specs.Reach.{isSharing, takesAny, takesString, Operand, repeated, choice-first, choice-second, group-first, group-second, interleave-first, interleave-second}
+use Rattle.rules.specs.Reach.{Role, oneString, roleOf, itemBy, stringBy, isSharing, takesAny, takesString, Operand, repeated, choice-first, choice-second, group-first, group-second, interleave-first, interleave-second}
+use Rattle.rules.proofs.Booleans.{or-either}
+use Rattle.rules.proofs.KindTests.{HasRole, role-strings, role-string, role-attribute, role-element, role-sharing, role-another, has-role}
 use Rattle.rules.proofs.RowPatterns.{Makes, makes-empty, makes-notAllowed, makes-text, makes-data, makes-except, makes-value, makes-attribute, makes-ref, makes-oneOrMore, makes-choice, makes-group, makes-interleave, makes-none, has-kind}
 
 -- the patterns that take a string
 pub data StringPattern : Pattern → Type 0 where
   of-text : StringPattern text
-  of-data : {t : ℕ} → StringPattern (dataAll t)
-  of-except : {t q : ℕ} → StringPattern (dataExcept t q)
-  of-value : {t k : ℕ} → StringPattern (value t k)
+  of-string : {x : Pattern} → roleOf x ≡ oneString → StringPattern x
+
+string-kind : {k : ℕ} → (eqb k kind.value || eqb k kind.«data») ≡ true → (3 ≤ k) × (k < 6)
+string-kind {k} h = ⊎-elim (λ e. let i = eqb-true k kind.value e in (omega arith, omega arith)) (λ e. let i = eqb-true k kind.«data» e in (omega arith, omega arith)) (or-either _ _ h)
+
+module _ {k a : ℕ} where
+  taker-role : {r : Role} → HasRole k a r → itemBy r ≡ true → ((3 ≤ k) × (k < 6)) ⊎ (k ≡ kind.ref)
+  taker-role (role-strings e) h = inl (omega arith, omega arith)
+  taker-role (role-string e) h = inl (string-kind e)
+  taker-role (role-attribute e) h = absurd (false≢true h)
+  taker-role (role-element e) h = inr e
+  taker-role (role-sharing e) h = absurd (false≢true h)
+  taker-role role-another h = absurd (false≢true h)
+
+  string-role : {r : Role} → HasRole k a r → stringBy r ≡ true → (3 ≤ k) × (k < 6)
+  string-role (role-strings e) h = (omega arith, omega arith)
+  string-role (role-string e) h = string-kind e
+  string-role (role-attribute e) h = absurd (false≢true h)
+  string-role (role-element e) h = absurd (false≢true h)
+  string-role (role-sharing e) h = absurd (false≢true h)
+  string-role role-another h = absurd (false≢true h)
 
 module _ {k a b : ℕ} where
   pub string-made : {x : Pattern} → 3 ≤ k → k < 6 → Makes k a b x → StringPattern x
+  string-made h l (makes-text e) = of-text
+  string-made h l (makes-data e f) = of-string refl
+  string-made h l (makes-except e f) = of-string refl
+  string-made h l (makes-value e) = of-string refl
   string-made h l (makes-empty e) = absurd (omega arith)
   string-made h l (makes-notAllowed e) = absurd (omega arith)
-  string-made h l (makes-text e) = of-text
-  string-made h l (makes-data e f) = of-data
-  string-made h l (makes-except e f) = of-except
-  string-made h l (makes-value e) = of-value
   string-made h l (makes-attribute e) = absurd (omega arith)
   string-made h l (makes-ref e) = absurd (omega arith)
   string-made h l (makes-oneOrMore e) = absurd (omega arith)
@@ -45,34 +67,10 @@ module _ {k a b : ℕ} where
 
   -- the other way
   pub string-kinds : {x : Pattern} → Makes k a b x → takesString x ≡ true → (3 ≤ k) × (k < 6)
-  string-kinds (makes-empty e) h = absurd (false≢true h)
-  string-kinds (makes-notAllowed e) h = absurd (false≢true h)
-  string-kinds (makes-text e) h = (omega arith, omega arith)
-  string-kinds (makes-data e f) h = (omega arith, omega arith)
-  string-kinds (makes-except e f) h = (omega arith, omega arith)
-  string-kinds (makes-value e) h = (omega arith, omega arith)
-  string-kinds (makes-attribute e) h = absurd (false≢true h)
-  string-kinds (makes-ref e) h = absurd (false≢true h)
-  string-kinds (makes-oneOrMore e) h = absurd (false≢true h)
-  string-kinds (makes-choice e) h = absurd (false≢true h)
-  string-kinds (makes-group e) h = absurd (false≢true h)
-  string-kinds (makes-interleave e) h = absurd (false≢true h)
-  string-kinds (makes-none n) h = absurd (false≢true h)
+  string-kinds m h = string-role (has-role m) h
 
   pub taker-kinds : {x : Pattern} → Makes k a b x → takesAny x ≡ true → ((3 ≤ k) × (k < 6)) ⊎ (k ≡ kind.ref)
-  taker-kinds (makes-empty e) h = absurd (false≢true h)
-  taker-kinds (makes-notAllowed e) h = absurd (false≢true h)
-  taker-kinds (makes-text e) h = inl (omega arith, omega arith)
-  taker-kinds (makes-data e f) h = inl (omega arith, omega arith)
-  taker-kinds (makes-except e f) h = inl (omega arith, omega arith)
-  taker-kinds (makes-value e) h = inl (omega arith, omega arith)
-  taker-kinds (makes-attribute e) h = absurd (false≢true h)
-  taker-kinds (makes-ref e) h = inr e
-  taker-kinds (makes-oneOrMore e) h = absurd (false≢true h)
-  taker-kinds (makes-choice e) h = absurd (false≢true h)
-  taker-kinds (makes-group e) h = absurd (false≢true h)
-  taker-kinds (makes-interleave e) h = absurd (false≢true h)
-  taker-kinds (makes-none n) h = absurd (false≢true h)
+  taker-kinds m h = taker-role (has-role m) h
 
   pub from-attribute : {nc q : ℕ} → Makes k a b (attribute nc q) → (k ≡ kind.attribute) × (a ≡ nc) × (b ≡ q)
   from-attribute (makes-attribute e) = (e, refl, refl)
@@ -87,7 +85,7 @@ module _ {k a b : ℕ} where
   operand-kinds interleave-first (makes-interleave e) = (omega arith, omega arith)
   operand-kinds interleave-second (makes-interleave e) = (omega arith, omega arith)
 
-  pub operand-pair : {r : ℕ} {x : Pattern} → Operand r x → Makes k a b x → 11 ≤ k → isPair x ≡ true
+  pub operand-pair : {r : ℕ} {x : Pattern} → Operand r x → Makes k a b x → 11 ≤ k → isSharing x ≡ true
   operand-pair repeated (makes-oneOrMore e) h = absurd (omega arith)
   operand-pair choice-first (makes-choice e) h = absurd (omega arith)
   operand-pair choice-second (makes-choice e) h = absurd (omega arith)

@@ -8,6 +8,8 @@ use native.Mathlib.Omega.{arith}
 use native.Mathlib.Decide.{decLt}
 use lib.ListN.{length, getD}
 use borrow.Author.Tests.{eqb-true, eq-eqb}
+use Rattle.tables.specs.Tables.{Tables}
+use Rattle.strings.specs.Strings.{schemaStrings}
 use Rattle.tables.proofs.Numbers.{not-less}
 use Rattle.schema.specs.Kinds as kind
 use Rattle.schema.specs.Rows.{kindOf, aOf, bOf}
@@ -28,8 +30,7 @@ use Rattle.rules.specs.Restricted.{Restricted}
 use Rattle.rules.proofs.RowPatterns.{Makes, row-makes}
 use Rattle.rules.specs.Spans.{run}
 use Rattle.marks.specs.Answers.{AtOperands}
-use Rattle.marks.specs.Marks.{attributeRow, TakesAttribute}
-use Rattle.marks.specs.Marks.{AttributeWord, SingleWord}
+use Rattle.marks.specs.Marks.{attributeRow, TakesAttribute, AttributeWord, SingleWord}
 use Rattle.marks.specs.Tests.{joinedBy}
 use Rattle.marks.proofs.Operands.{joined-operands}
 use Rattle.marks.proofs.RowKinds.{attribute-at, oneOrMore-at, choice-at, operand-kinds, operand-pair}
@@ -72,12 +73,15 @@ module _ (L : Lookups) where
   choice-to : (y : ℕ) {a b : ℕ} → Alone y (choice a b) → (r : ℕ) × Operand r (choice a b) × Alone y (L .pattern r)
   choice-to y {a} {b} d = ⊎-elim (λ h. (a, choice-first, h)) (λ h. (b, choice-second, h)) (step L NotMatch d)
 
-module _ (bytes ends s t : List ℕ) (e attributes : ℕ) (pass : SchemaPasses (length ends) s) (p : ℕ) where
+module _ (J : Tables) (e attributes : ℕ) (pass : SchemaPasses (schemaStrings (J .strings)) (J .schema)) (p : ℕ) where
+  abbrev s : List ℕ
+  s = J .schema
+
   abbrev L : Lookups
-  L = lookups bytes ends s t
+  L = lookups J
 
   abbrev Single : ℕ → ℕ → Type 0
-  Single = SingleWord bytes ends s t e attributes
+  Single = SingleWord J e attributes
 
   -- a oneOrMore or choice is matched by an operand
   by-operand : (y : ℕ) → 9 ≤ kindOf s p → kindOf s p < 11 → ((r : ℕ) × Operand r (patternOf s p) × Alone L y (patternOf s r)) ↔ Alone L y (patternOf s p)
@@ -86,13 +90,13 @@ module _ (bytes ends s t : List ℕ) (e attributes : ℕ) (pass : SchemaPasses (
       go : Dec (kindOf s p < 10) → ((r : ℕ) × Operand r (patternOf s p) × Alone L y (patternOf s r)) ↔ Alone L y (patternOf s p)
       go (yes i) =
           let f = oneOrMore-at s p (omega arith) in
-          (λ o. rw f (repeated-from L y (rw f at (o .1)) (o .2)), λ d. (aOf s p, rw f repeated, alone-repeated L (restricted pass bytes ends t) y p (aOf s p) f d))
+          (λ o. rw f (repeated-from L y (rw f at (o .1)) (o .2)), λ d. (aOf s p, rw f repeated, alone-repeated L (restricted J pass) y p (aOf s p) f d))
       go (no i) =
           let k = not-less i in
           let f = choice-at s p (omega arith) in
           (λ o. rw f (choice-from L y (rw f at (o .1)) (o .2)), λ d. rw f (choice-to L y (rw f at d)))
 
-  pub single-attribute : (leaf : ℕ) → kindOf s p ≡ kind.attribute → AttributeWord bytes ends s t e attributes p leaf → Single p leaf
+  pub single-attribute : (leaf : ℕ) → kindOf s p ≡ kind.attribute → AttributeWord J e attributes p leaf → Single p leaf
   single-attribute leaf f w x h flat =
       let a = w (aOf s p) (bOf s p) x (attribute-at s p f) h in
       let i = alone-attribute L (attributeRow e x) (aOf s p) (bOf s p) in

@@ -5,6 +5,8 @@ use mathlib.Core.List.{List}
 use mathlib.Core.Logic.{_≢_}
 use lib.Dec.{leb}
 use lib.ListN.{length, getD}
+use Rattle.tables.specs.Tables.{StringTable, tablesOf}
+use Rattle.strings.specs.Strings.{schemaStrings}
 use Rattle.schema.specs.Kinds as kind
 use Rattle.schema.specs.Relations.{connective, Occurs}
 use Rattle.schema.specs.Rows.{rowsOf, kindOf, aOf, bOf}
@@ -37,42 +39,42 @@ AtOperands s P words p = (r : ℕ) → Operand r (patternOf s p) → P r (getD w
 
 module _ (s t alone nothing blank pairs items : List ℕ) (e attributes texts : ℕ) where
   abbrev pub LeafAnswer : (p w : ℕ) → Type 0
-  LeafAnswer p w = (bytes ends : List ℕ) → Given bytes ends s t alone nothing blank pairs items e attributes texts → p < rowsOf s
-      → LeafWord bytes ends s t e attributes (itemAt bytes ends items texts) (length items) p w
+  LeafAnswer p w = (T : StringTable) → Given (tablesOf T s t) alone nothing blank pairs items e attributes texts → p < rowsOf s
+      → LeafWord (tablesOf T s t) e attributes (itemAt T items texts) (length items) p w
 
   module _ (marks₀ named₀ taken₀ single₀ marks named taken single : List ℕ) where
     -- where its operands are marked
     abbrev pub RowAnswer : (p : ℕ) → Type 0
-    RowAnswer p = (bytes ends : List ℕ) → Given bytes ends s t alone nothing blank pairs items e attributes texts → p < rowsOf s
-        → ((r : ℕ) → Operand r (patternOf s p) → RowMarked bytes ends s t e attributes (itemAt bytes ends items texts) (length items) marks₀ named₀ taken₀ single₀ r)
-        → StayMarked bytes ends s t e attributes (itemAt bytes ends items texts) (length items) marks₀ named₀ taken₀ single₀ marks named taken single
-        × RowMarked bytes ends s t e attributes (itemAt bytes ends items texts) (length items) marks named taken single p
+    RowAnswer p = (T : StringTable) → Given (tablesOf T s t) alone nothing blank pairs items e attributes texts → p < rowsOf s
+        → ((r : ℕ) → Operand r (patternOf s p) → RowMarked (tablesOf T s t) e attributes (itemAt T items texts) (length items) marks₀ named₀ taken₀ single₀ r)
+        → StayMarked (tablesOf T s t) e attributes (itemAt T items texts) (length items) marks₀ named₀ taken₀ single₀ marks named taken single
+        × RowMarked (tablesOf T s t) e attributes (itemAt T items texts) (length items) marks named taken single p
 
     abbrev pub SmallerAnswer : (q p : ℕ) → Type 0
-    SmallerAnswer q p = (bytes ends : List ℕ) → Given bytes ends s t alone nothing blank pairs items e attributes texts → p < rowsOf s
-        → StayMarked bytes ends s t e attributes (itemAt bytes ends items texts) (length items) marks₀ named₀ taken₀ single₀ marks named taken single
-        × (q < p → PatternMarked bytes ends s t e attributes (itemAt bytes ends items texts) (length items) marks named taken single q)
+    SmallerAnswer q p = (T : StringTable) → Given (tablesOf T s t) alone nothing blank pairs items e attributes texts → p < rowsOf s
+        → StayMarked (tablesOf T s t) e attributes (itemAt T items texts) (length items) marks₀ named₀ taken₀ single₀ marks named taken single
+        × (q < p → PatternMarked (tablesOf T s t) e attributes (itemAt T items texts) (length items) marks named taken single q)
 
     -- every row that occurs in the pattern at row p but p
     abbrev pub OperandsAnswer : (p : ℕ) → Type 0
-    OperandsAnswer p = (bytes ends : List ℕ) → Given bytes ends s t alone nothing blank pairs items e attributes texts → p < rowsOf s
-        → StayMarked bytes ends s t e attributes (itemAt bytes ends items texts) (length items) marks₀ named₀ taken₀ single₀ marks named taken single
-        × ((q : ℕ) → Occurs s q p → q ≢ p → RowMarked bytes ends s t e attributes (itemAt bytes ends items texts) (length items) marks named taken single q)
+    OperandsAnswer p = (T : StringTable) → Given (tablesOf T s t) alone nothing blank pairs items e attributes texts → p < rowsOf s
+        → StayMarked (tablesOf T s t) e attributes (itemAt T items texts) (length items) marks₀ named₀ taken₀ single₀ marks named taken single
+        × ((q : ℕ) → Occurs s q p → q ≢ p → RowMarked (tablesOf T s t) e attributes (itemAt T items texts) (length items) marks named taken single q)
 
     abbrev pub PatternAnswer : (p : ℕ) → Type 0
-    PatternAnswer p = (bytes ends : List ℕ) → Given bytes ends s t alone nothing blank pairs items e attributes texts → p < rowsOf s
-        → Marking bytes ends s t e attributes (itemAt bytes ends items texts) (length items) marks₀ named₀ taken₀ single₀ marks named taken single p
+    PatternAnswer p = (T : StringTable) → Given (tablesOf T s t) alone nothing blank pairs items e attributes texts → p < rowsOf s
+        → Marking (tablesOf T s t) e attributes (itemAt T items texts) (length items) marks₀ named₀ taken₀ single₀ marks named taken single p
 
 module _ (s t : List ℕ) (e attributes : ℕ) where
   abbrev pub NamedAnswer : (named : List ℕ) (p w : ℕ) → Type 0
-  NamedAnswer named p w = (bytes ends : List ℕ) → SchemaPasses (length ends) s → AtOperands s (NamedWord bytes ends s t e attributes) named p → NamedWord bytes ends s t e attributes p w
+  NamedAnswer named p w = (T : StringTable) → SchemaPasses (schemaStrings T) s → AtOperands s (NamedWord (tablesOf T s t) e attributes) named p → NamedWord (tablesOf T s t) e attributes p w
 
 module _ (s t items : List ℕ) (texts : ℕ) where
   abbrev pub TakenAnswer : (taken : List ℕ) (p w : ℕ) → Type 0
-  TakenAnswer taken p w = (bytes ends : List ℕ) → SchemaPasses (length ends) s → AtOperands s (TakenWord bytes ends s t (itemAt bytes ends items texts) (length items)) taken p
-      → TakenWord bytes ends s t (itemAt bytes ends items texts) (length items) p w
+  TakenAnswer taken p w = (T : StringTable) → SchemaPasses (schemaStrings T) s → AtOperands s (TakenWord (tablesOf T s t) (itemAt T items texts) (length items)) taken p
+      → TakenWord (tablesOf T s t) (itemAt T items texts) (length items) p w
 
 -- from the word of an attribute pattern
 abbrev pub SingleAnswer : (s : List ℕ) (leaf : ℕ) (single : List ℕ) (p w : ℕ) → Type 0
-SingleAnswer s leaf single p w = (bytes ends t : List ℕ) (e attributes : ℕ) → SchemaPasses (length ends) s → AttributeWord bytes ends s t e attributes p leaf
-    → AtOperands s (SingleWord bytes ends s t e attributes) single p → SingleWord bytes ends s t e attributes p w
+SingleAnswer s leaf single p w = (T : StringTable) (t : List ℕ) (e attributes : ℕ) → SchemaPasses (schemaStrings T) s → AttributeWord (tablesOf T s t) e attributes p leaf
+    → AtOperands s (SingleWord (tablesOf T s t) e attributes) single p → SingleWord (tablesOf T s t) e attributes p w

@@ -6,14 +6,15 @@ use mathlib.Core.List.{List, [], _∷_}
 use mathlib.Core.Logic.{_↔_}
 use lib.ListN.{getD}
 use lib.Dec.{ltb}
+use Rattle.tables.specs.Tables.{Tables}
 use Rattle.schema.specs.Relations.{Occurs}
 use Rattle.schema.specs.Rows.{rowsOf}
-use Rattle.schema.specs.Views.{Pattern, empty, notAllowed, text, dataAll, dataExcept, value, attribute, ref, oneOrMore, choice, group, interleave, noPattern, patternOf}
+use Rattle.schema.specs.Views.{Pattern, attribute, patternOf}
 use Rattle.sets.specs.Bits.{bit}
 use Rattle.rules.specs.Items.{Item, element, string, Attributes, none, only, Lookups}
 use Rattle.rules.specs.Rules.{Match, WeakMatch, NotMatchBy}
 use Rattle.rules.specs.Job.{lookups}
-use Rattle.rules.specs.Reach.{Reaches, namesAttribute, takes, takesAny}
+use Rattle.rules.specs.Reach.{Role, strings, oneString, anAttribute, anElement, sharing, another, roleOf, Reaches, namesAttribute, takes, takesAny}
 use Rattle.rules.specs.Restricted.{Flat}
 use Rattle.rules.specs.Spans.{Paired}
 
@@ -38,21 +39,17 @@ module _ (L : Lookups) where
   IsPaired d (element e) = Paired L NotMatch e d
   IsPaired d (string s) = ⊥
 
-  -- what one item must be for a pattern that takes items; text takes any string
+  -- what one item must be for a pattern that takes items: text takes any string
+  abbrev pub TakesBy : Pattern → Role → Item → Type 0
+  TakesBy x strings y = IsString (λ s. Unit {0}) y
+  TakesBy x oneString y = IsString (λ s. Match L NotMatch none (string s ∷ []) x) y
+  TakesBy x (anAttribute nc) y = ⊥
+  TakesBy x (anElement d) y = IsPaired d y
+  TakesBy x sharing y = ⊥
+  TakesBy x another y = ⊥
+
   abbrev pub Takes : Pattern → Item → Type 0
-  Takes empty y = ⊥
-  Takes notAllowed y = ⊥
-  Takes text y = IsString (λ s. Unit {0}) y
-  Takes (dataAll t) y = IsString (λ s. Unit {0}) y
-  Takes (dataExcept t p) y = IsString (λ s. NotMatch s p) y
-  Takes (value t k) y = IsString (λ s. L .Equal t s (L .text k)) y
-  Takes (attribute nc p) y = ⊥
-  Takes (ref d) y = IsPaired d y
-  Takes (oneOrMore p) y = ⊥
-  Takes (choice p q) y = ⊥
-  Takes (group p q) y = ⊥
-  Takes (interleave p q) y = ⊥
-  Takes noPattern y = ⊥
+  Takes x y = TakesBy x (roleOf x) y
 
   -- the premises of (attribute) for instance row r
   pub record TakesAttribute (nc p r : ℕ) : Type 0 where
@@ -60,42 +57,42 @@ module _ (L : Lookups) where
     pub valued : WeakMatch L NotMatch none (string (L .value r) ∷ []) (L .pattern p)
 
 -- what the word of row p is in each of the four tables
-module _ (bytes ends s t : List ℕ) where
+module _ (J : Tables) where
   abbrev L : Lookups
-  L = lookups bytes ends s t
+  L = lookups J
 
   abbrev pub AttributeWord : (e attributes p w : ℕ) → Type 0
-  AttributeWord e attributes p w = (nc q x : ℕ) → patternOf s p ≡ attribute nc q → x < attributes → (bit w x ≡ true) ↔ TakesAttribute L nc q (attributeRow e x)
+  AttributeWord e attributes p w = (nc q x : ℕ) → patternOf (J .schema) p ≡ attribute nc q → x < attributes → (bit w x ≡ true) ↔ TakesAttribute L nc q (attributeRow e x)
 
   -- the items that a pattern which takes items takes, and the attributes that an attribute pattern takes
   pub record LeafWord (e attributes : ℕ) (it : ℕ → Item) (items p w : ℕ) : Type 0 where
-    pub leaves : (k : ℕ) → k < items → takesAny (patternOf s p) ≡ true → (bit w k ≡ true) ↔ Takes L (patternOf s p) (it k)
+    pub leaves : (k : ℕ) → k < items → takesAny (patternOf (J .schema) p) ≡ true → (bit w k ≡ true) ↔ Takes L (patternOf (J .schema) p) (it k)
     pub attribute-leaves : AttributeWord e attributes p w
 
   -- the attributes that an attribute pattern reached from p names
   abbrev pub NamedWord : (e attributes p w : ℕ) → Type 0
-  NamedWord e attributes p w = (x : ℕ) → x < attributes → (bit w x ≡ true) ↔ Reaches L (namesAttribute L (attributeRow e x)) (patternOf s p)
+  NamedWord e attributes p w = (x : ℕ) → x < attributes → (bit w x ≡ true) ↔ Reaches L (namesAttribute L (attributeRow e x)) (patternOf (J .schema) p)
 
   -- the items that a pattern reached from p takes
   abbrev pub TakenWord : (it : ℕ → Item) (items p w : ℕ) → Type 0
-  TakenWord it items p w = (k : ℕ) → k < items → (bit w k ≡ true) ↔ Reaches L (takes L (it k)) (patternOf s p)
+  TakenWord it items p w = (k : ℕ) → k < items → (bit w k ≡ true) ↔ Reaches L (takes L (it k)) (patternOf (J .schema) p)
 
   -- the attributes that match p alone, where none stands in a group or interleave
   abbrev pub SingleWord : (e attributes p w : ℕ) → Type 0
-  SingleWord e attributes p w = (x : ℕ) → x < attributes → Flat L (patternOf s p) → (bit w x ≡ true) ↔ Match L (NotMatchBy L (rowsOf s)) (only (attributeRow e x)) [] (patternOf s p)
+  SingleWord e attributes p w = (x : ℕ) → x < attributes → Flat L (patternOf (J .schema) p) → (bit w x ≡ true) ↔ Match L (NotMatchBy L (rowsOf (J .schema))) (only (attributeRow e x)) [] (patternOf (J .schema) p)
 
 -- for an element e with so many attributes, whose items are the first so many of it
-module _ (bytes ends s t : List ℕ) (e attributes : ℕ) (it : ℕ → Item) (items : ℕ) where
+module _ (J : Tables) (e attributes : ℕ) (it : ℕ → Item) (items : ℕ) where
   -- the words of row p are right
   pub record RowMarked (marks named taken single : List ℕ) (p : ℕ) : Type 0 where
-    pub leaf : LeafWord bytes ends s t e attributes it items p (getD marks p 0)
-    pub names : NamedWord bytes ends s t e attributes p (getD named p 0)
-    pub takers : TakenWord bytes ends s t it items p (getD taken p 0)
-    pub singles : SingleWord bytes ends s t e attributes p (getD single p 0)
+    pub leaf : LeafWord J e attributes it items p (getD marks p 0)
+    pub names : NamedWord J e attributes p (getD named p 0)
+    pub takers : TakenWord J it items p (getD taken p 0)
+    pub singles : SingleWord J e attributes p (getD single p 0)
 
   -- and so are those of every row that occurs in the pattern at row p
   pub record PatternMarked (marks named taken single : List ℕ) (p : ℕ) : Type 0 where
-    pub rows : (q : ℕ) → Occurs s q p → RowMarked marks named taken single q
+    pub rows : (q : ℕ) → Occurs (J .schema) q p → RowMarked marks named taken single q
 
   -- from the tables before to those after, a row that is marked stays so
   pub record StayMarked (marks₀ named₀ taken₀ single₀ marks named taken single : List ℕ) : Type 0 where

@@ -1,17 +1,15 @@
 // What each pattern of a schema does with the attributes and the children of one element, as sets.
 ghost use mathlib.Core.Path.{_≡_};
-ghost use mathlib.Core.Bool.{true, cond, _&&_};
-ghost use mathlib.Core.Logic.{_↔_};
-ghost use mathlib.Core.List.{List};
-ghost use Prim.Native.Nat.{ℕ, _+_, _*_, _^_, _≤_, _<_};
+ghost use mathlib.Core.Bool.{cond, _&&_};
+ghost use Prim.Native.Nat.{_+_, _*_, _^_, _≤_, _<_};
 ghost use lib.Bits.{bitOr};
 ghost use lib.Dec.{eqb, ltb};
 ghost use lib.ListN.{length, getD};
-ghost use Rattle.schema.specs.Rows.{rowsOf, kindOf, aOf, bOf};
+ghost use Rattle.schema.specs.Rows.{kindOf, aOf, bOf};
 ghost use Rattle.instance.specs.Width.{maxWidth};
 ghost use Rattle.marks.specs.Answers.{Room, LeafAnswer, NamedAnswer, TakenAnswer, SingleAnswer, RowAnswer, SmallerAnswer, OperandsAnswer, PatternAnswer, firstOperand, secondOperand};
-ghost use Rattle.marks.specs.Given.{itemAt, Given};
-ghost use Rattle.marks.specs.Marks.{attributeRow, Marking};
+ghost use Rattle.marks.specs.Given.{Markable, Marks};
+ghost use Rattle.marks.specs.Marks.{attributeRow};
 ghost use Rattle.marks.specs.Tests.{hasName, valueFits, stringAlone, elementPaired, elementNamed, attributeNamed, attributeFits, Collects, joinedBy};
 
 // A row of the table of strings alone, and one of the table of pairs, has so many entries.
@@ -481,43 +479,8 @@ fn mark_pattern(
     );
 }
 
-// Whether there are as many attributes and items as there may be, and each table has row p.
-fn has_room(
-    attributes: u32,
-    items: &[u32],
-    p: u32,
-    marks: &[u64],
-    named: &[u64],
-    taken: &[u64],
-    single: &[u64],
-) -> bool
-    ensures { λ r. ⌜ (r ≡ true) ↔ Room (now (items .entry)) (now (marks .entry)) (now (named .entry)) (now (taken .entry)) (now (single .entry)) attributes p ⌝ }
-{
-    let row = p as usize;
-    if instance::MAX_WIDTH < attributes {
-        return false;
-    }
-    if (instance::MAX_WIDTH as usize) < items.len() {
-        return false;
-    }
-    if marks.len() <= row {
-        return false;
-    }
-    if named.len() <= row {
-        return false;
-    }
-    if taken.len() <= row {
-        return false;
-    }
-    if single.len() <= row {
-        return false;
-    }
-    true
-}
-
 // The words of each row in the pattern at row p of a schema, for the element at row e, with so many attributes and with these items, of which those in texts are strings by their numbers and
-// the others elements by their rows. The words of other rows may change, but those that are right stay so. Nothing is written where a table has no row p, or where there are more attributes
-// or items than there may be.
+// the others elements by their rows. The words of other rows may change, but those that are right stay so.
 pub fn mark(
     schema: &[u32],
     instance: &[u32],
@@ -535,11 +498,9 @@ pub fn mark(
     taken: &mut [u64],
     single: &mut [u64],
 )
-    ensures { λ _. ⌜ ((bytes ends : List ℕ) → Given bytes ends (now (schema .entry)) (now (instance .entry)) (now (alone .entry)) (now (nothing .entry)) (now (blank .entry)) (now (pairs .entry)) (now (items .entry)) e attributes texts → p < rowsOf (now (schema .entry)) → rowsOf (now (schema .entry)) ≤ length (now (marks .entry)) → rowsOf (now (schema .entry)) ≤ length (now (named .entry)) → rowsOf (now (schema .entry)) ≤ length (now (taken .entry)) → rowsOf (now (schema .entry)) ≤ length (now (single .entry)) → Marking bytes ends (now (schema .entry)) (now (instance .entry)) e attributes (itemAt bytes ends (now (items .entry)) texts) (length (now (items .entry))) (now (marks .entry)) (now (named .entry)) (now (taken .entry)) (now (single .entry)) (now (marks .exit)) (now (named .exit)) (now (taken .exit)) (now (single .exit)) p) ⌝ }
+    requires { ⌜ Markable (now schema) (now instance) (now alone) (now nothing) (now blank) (now pairs) (now items) e attributes texts p (now marks) (now named) (now taken) (now single) ⌝ }
+    ensures { λ _. ⌜ Marks (now (schema .entry)) (now (instance .entry)) (now (alone .entry)) (now (nothing .entry)) (now (blank .entry)) (now (pairs .entry)) (now (items .entry)) e attributes texts p (now (marks .entry)) (now (named .entry)) (now (taken .entry)) (now (single .entry)) (now (marks .exit)) (now (named .exit)) (now (taken .exit)) (now (single .exit)) ⌝ }
 {
-    if !has_room(attributes, items, p, marks, named, taken, single) {
-        return;
-    }
     mark_pattern(
         schema,
         instance,

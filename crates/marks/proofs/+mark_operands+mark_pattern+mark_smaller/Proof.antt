@@ -6,6 +6,7 @@ use denote.Ref.{now}
 use lib.ListN.{length}
 use borrow.Fn.Kinds.{In}
 use borrow.Fn.PlainCycle.{Measures, is, falls, and}
+use Rattle.tables.specs.Tables.{tablesOf}
 use Rattle.marks.specs.Given.{itemAt}
 use Rattle.marks.proofs.Marking.{stays-same, operands-marked, pattern-marked}
 use Rattle.marks.proofs.mark_operands.Reads as mark-operands
@@ -85,9 +86,9 @@ module _ (t : ℕ) where
   mark-operands-same-length-4 c = c .before .single2 .given ∙ c .before .before .before .before .before .before .before .before .before .before .before .before .before .before .single .given
 
   mark-operands-returns : mark-operands-lts.Need-returns mark-operands-calls mark-operands-at mark-operands.Post
-  mark-operands-returns c = λ bytes ends g row.
+  mark-operands-returns c = λ T g row.
       let a = c .before .before .before .before .before .before .before .before .before .before .before .before .before .before .before .before .before .before .before .before .before .before .before .before .before .before .before .before .before .before .before .before .before .before .before .before .before .before .before .args in
-      operands-marked bytes ends (now (a .schema)) (now (a .instance)) (a .e) (a .attributes) (itemAt bytes ends (now (a .items)) (a .texts)) (length (now (a .items))) (a .p) _ _ (c .before .before .before .before .before .before .before .before .before .before .before .before .before .before .before .before .before .before .before .before .before .before .before .before .before .before .before .first-operand .ensures) (c .before .before .before .before .before .before .before .before .before .before .before .before .before .before .before .before .before .before .before .before .before .before .before .before .before .before .second-operand .ensures) (c .before .before .before .before .before .before .before .before .before .before .before .before .before .before .before .before .before .before .before .before .before .mark-smaller .ensures bytes ends g row) (c .before .before .before .before .before .before .before .before .mark-smaller2 .ensures bytes ends g row)
+      operands-marked (tablesOf T (now (a .schema)) (now (a .instance))) (a .e) (a .attributes) (itemAt T (now (a .items)) (a .texts)) (length (now (a .items))) (a .p) _ _ (c .before .before .before .before .before .before .before .before .before .before .before .before .before .before .before .before .before .before .before .before .before .before .before .before .before .before .before .first-operand .ensures) (c .before .before .before .before .before .before .before .before .before .before .before .before .before .before .before .before .before .before .before .before .before .before .before .before .before .before .second-operand .ensures) (c .before .before .before .before .before .before .before .before .before .before .before .before .before .before .before .before .before .before .before .before .before .mark-smaller .ensures T g row) (c .before .before .before .before .before .before .before .before .mark-smaller2 .ensures T g row)
 
   mark-pattern-mark-operands-requires : mark-pattern-lts.Need-mark-operands-requires mark-pattern-calls mark-pattern-at mark-pattern.Post
   mark-pattern-mark-operands-requires c κs = let room = c .before .before .before .before .before .before .before .before .before .before .before .before .before .before .before .pre .1 in let m = c .before .before .before .before .before .before .before .before .before .before .before .before .before .before .before .pre .0 in (omega arith, record { few-attributes = room .few-attributes; few-items = room .few-items; in-marks = (let h = room .in-marks in omega arith); in-named = (let h = room .in-named in omega arith); in-taken = (let h = room .in-taken in omega arith); in-single = (let h = room .in-single in omega arith) })
@@ -108,9 +109,9 @@ module _ (t : ℕ) where
   mark-pattern-same-length-4 c = c .before .single2 .given ∙ c .before .before .before .before .before .before .before .before .before .before .before .before .before .before .single .given
 
   mark-pattern-returns : mark-pattern-lts.Need-returns mark-pattern-calls mark-pattern-at mark-pattern.Post
-  mark-pattern-returns c = λ bytes ends g row.
+  mark-pattern-returns c = λ T g row.
       let a = c .before .before .before .before .before .before .before .before .before .before .before .before .before .before .before .before .before .before .before .before .before .before .before .before .before .before .before .before .before .before .before .before .before .before .before .before .before .args in
-      pattern-marked bytes ends (now (a .schema)) (now (a .instance)) (a .e) (a .attributes) (itemAt bytes ends (now (a .items)) (a .texts)) (length (now (a .items))) (g .passes .rows) (a .p) (c .before .before .before .before .before .before .before .before .before .before .before .before .before .before .before .before .before .before .before .before .before .mark-operands .ensures bytes ends g row) (c .before .before .before .before .before .before .before .before .mark-row .ensures bytes ends g row)
+      pattern-marked (tablesOf T (now (a .schema)) (now (a .instance))) (a .e) (a .attributes) (itemAt T (now (a .items)) (a .texts)) (length (now (a .items))) (g .passes .rows) (a .p) (c .before .before .before .before .before .before .before .before .before .before .before .before .before .before .before .before .before .before .before .before .before .mark-operands .ensures T g row) (c .before .before .before .before .before .before .before .before .mark-row .ensures T g row)
 
   mark-smaller-mark-pattern-requires : mark-smaller-lts.Need-mark-pattern-requires mark-smaller-calls mark-smaller-at mark-smaller.Post
   mark-smaller-mark-pattern-requires c κs = let room = c .before .before .before .before .before .before .before .before .before .before .before .before .before .before .before .before .pre .1 in let m = c .before .before .before .before .before .before .before .before .before .before .before .before .before .before .before .before .pre .0 in (omega arith, record { few-attributes = room .few-attributes; few-items = room .few-items; in-marks = (let h = room .in-marks in omega arith); in-named = (let h = room .in-named in omega arith); in-taken = (let h = room .in-taken in omega arith); in-single = (let h = room .in-single in omega arith) })
@@ -128,15 +129,15 @@ module _ (t : ℕ) where
   mark-smaller-same-length-4 c = c .before .single .given
 
   mark-smaller-returns : mark-smaller-lts.Need-returns mark-smaller-calls mark-smaller-at mark-smaller.Post
-  mark-smaller-returns c = λ bytes ends g row.
+  mark-smaller-returns c = λ T g row.
       let h = c .before .before .before .before .before .before .before .before .before .before .before .before .before .if1 .taken in
-      let m = c .before .before .before .before .before .before .before .before .mark-pattern .ensures bytes ends g (omega arith) in
+      let m = c .before .before .before .before .before .before .before .before .mark-pattern .ensures T g (omega arith) in
       (m .kept, λ l. m .pattern)
 
   mark-smaller-returns-2 : mark-smaller-lts.Need-returns-2 mark-smaller-calls mark-smaller-at mark-smaller.Post
-  mark-smaller-returns-2 c = λ bytes ends g row.
+  mark-smaller-returns-2 c = λ T g row.
       let a = c .before .before .before .before .before .before .before .before .before .before .before .before .args in
-      (stays-same bytes ends (now (a .schema)) (now (a .instance)) (a .e) (a .attributes) (itemAt bytes ends (now (a .items)) (a .texts)) (length (now (a .items))), λ l. absurd (let h = c .if1 .left in omega arith))
+      (stays-same (tablesOf T (now (a .schema)) (now (a .instance))) (a .e) (a .attributes) (itemAt T (now (a .items)) (a .texts)) (length (now (a .items))), λ l. absurd (let h = c .if1 .left in omega arith))
 
 pub +mark-operands+mark-pattern+mark-smaller-spec : {M : Type 1} → statement M
 +mark-operands+mark-pattern+mark-smaller-spec =

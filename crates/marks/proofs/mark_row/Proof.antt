@@ -2,6 +2,7 @@
 use denote.Ref.{now}
 use lib.ListN.{length}
 use native.Mathlib.Omega.{arith}
+use Rattle.tables.specs.Tables.{tablesOf}
 use Rattle.marks.specs.Given.{itemAt}
 use Rattle.marks.proofs.Marking.{row-stored}
 use borrow.Author.Needs.{needs}
@@ -57,15 +58,15 @@ same-length-4 : tie.Need-same-length-4
 same-length-4 c = search needs
 
 returns : tie.Need-returns
-returns c = λ bytes ends g row operands.
+returns c = λ T g row operands.
     let a = c .before .before .before .before .before .before .before .before .before .before .before .before .before .before .before .before .before .before .args in
     let room = c .before .before .before .before .before .before .before .before .before .before .before .before .before .before .before .before .before .before .pre in
-    let leaf = c .before .before .before .before .before .before .leaf-word .ensures bytes ends g row in
-    row-stored bytes ends (now (a .schema)) (now (a .instance)) (a .e) (a .attributes) (itemAt bytes ends (now (a .items)) (a .texts)) (length (now (a .items)))
+    let leaf = c .before .before .before .before .before .before .leaf-word .ensures T g row in
+    row-stored (tablesOf T (now (a .schema)) (now (a .instance))) (a .e) (a .attributes) (itemAt T (now (a .items)) (a .texts)) (length (now (a .items)))
     (now (a .marks)) (now (a .named)) (now (a .taken)) (now (a .single)) (a .p) _ _ _ _ (room .in-marks) (room .in-named) (room .in-taken) (room .in-single) leaf
-    (c .before .before .before .before .named-word .ensures bytes ends (g .passes) (λ r o. operands r o .names))
-    (c .before .before .taken-word .ensures bytes ends (g .passes) (λ r o. operands r o .takers))
-    (c .single-word .ensures bytes ends (now (a .instance)) (a .e) (a .attributes) (g .passes) (leaf .attribute-leaves) (λ r o. operands r o .singles))
+    (c .before .before .before .before .named-word .ensures T (g .passes) (λ r o. operands r o .names))
+    (c .before .before .taken-word .ensures T (g .passes) (λ r o. operands r o .takers))
+    (c .single-word .ensures T (now (a .instance)) (a .e) (a .attributes) (g .passes) (leaf .attribute-leaves) (λ r o. operands r o .singles))
 
 pub mark-row-spec : {M : Type 1} → statement M
 mark-row-spec =

@@ -1,4 +1,5 @@
 -- An attribute pattern by its class, and any other by its operands.
+use Rattle.tables.specs.Tables.{tablesOf}
 use Rattle.marks.proofs.Reaching.{named-attribute, named-other}
 use Rattle.marks.proofs.named_word.Statement.{statement}
 use Rattle.marks.proofs.named_word.Tie as tie
@@ -19,10 +20,10 @@ operand-words-requires : tie.Need-operand-words-requires
 operand-words-requires c κs = search needs
 
 returns : tie.Need-returns
-returns c = λ bytes ends pass below. named-attribute bytes ends (now (c .before .before .before .before .before .before .before .args .schema)) (now (c .before .before .before .before .before .before .before .args .instance)) pass (c .before .before .before .before .before .before .before .args .p) (c .before .before .before .before .before .before .before .args .e) (c .before .before .before .before .before .before .before .args .attributes) (sym (c .before .before .kind .ensures) ∙ c .before .match .keys1) (rw (c .before .before .before .field-a .ensures) at (c .attributes-named .ensures))
+returns c = λ T pass below. named-attribute (tablesOf T (now (c .before .before .before .before .before .before .before .args .schema)) (now (c .before .before .before .before .before .before .before .args .instance))) pass (c .before .before .before .before .before .before .before .args .p) (c .before .before .before .before .before .before .before .args .e) (c .before .before .before .before .before .before .before .args .attributes) (sym (c .before .before .kind .ensures) ∙ c .before .match .keys1) (rw (c .before .before .before .field-a .ensures) at (c .attributes-named .ensures))
 
 returns-2 : tie.Need-returns-2
-returns-2 c = λ bytes ends pass below. named-other bytes ends (now (c .before .before .before .before .before .before .before .args .schema)) (now (c .before .before .before .before .before .before .before .args .instance)) pass (c .before .before .before .before .before .before .before .args .p) (c .before .before .before .before .before .before .before .args .e) (c .before .before .before .before .before .before .before .args .attributes) (now (c .before .before .before .before .before .before .before .args .named)) (λ z. c .before .match .rest .1 (c .before .before .kind .ensures ∙ z)) (c .operand-words .ensures) below
+returns-2 c = λ T pass below. named-other (tablesOf T (now (c .before .before .before .before .before .before .before .args .schema)) (now (c .before .before .before .before .before .before .before .args .instance))) pass (c .before .before .before .before .before .before .before .args .p) (c .before .before .before .before .before .before .before .args .e) (c .before .before .before .before .before .before .before .args .attributes) (now (c .before .before .before .before .before .before .before .args .named)) (λ z. c .before .match .rest .1 (c .before .before .kind .ensures ∙ z)) (c .operand-words .ensures) below
 
 pub named-word-spec : {M : Type 1} → statement M
 named-word-spec =
