@@ -6,12 +6,11 @@ use mathlib.Core.Logic.{_⊎_, inl, inr, ⊎-elim}
 use Prim.Native.Nat.{ℕ, _-_, _^_, _<_}
 use native.Mathlib.Omega.{arith}
 use lib.Bits.{bitAnd, bitOr}
-use lib.Count.{trailingZeros}
 use lib.ListN.{getD}
-use Rattle.sets.specs.Bits.{bit}
+use Rattle.sets.specs.Bits.{bit, Least, FirstOf}
 use Rattle.relations.specs.Words.{Holds, Image}
 use Rattle.sets.proofs.Members.{none-has, or-has, has-or-l, has-or-r}
-use Rattle.sets.proofs.Least.{trailing, rest-lt, rest-has, has-rest}
+use Rattle.sets.proofs.Least.{first-least, rest-lt, rest-has, has-rest}
 
 -- the members of s that are not in rest are gathered
 pub record Gathered (s : ℕ) (ws : List ℕ) (out rest : ℕ) : Type 0 where
@@ -23,19 +22,18 @@ pub record Gathered (s : ℕ) (ws : List ℕ) (out rest : ℕ) : Type 0 where
 pub gather-none : {s : ℕ} (ws : List ℕ) → s < 2 ^ 64 → Gathered s ws 0 s
 gather-none ws f = record { fits = f; within = λ h e. e; sound = λ j e. absurd (none-has j e); complete = λ h j e x. inl e }
 
-pub gather-more : {s : ℕ} {ws : List ℕ} {out rest word : ℕ} → Gathered s ws out rest → 0 < rest → word ≡ getD ws (trailingZeros 64 rest) 0
-    → Gathered s ws (bitOr out word) (bitAnd rest (rest - 1))
-gather-more {s} {ws} {out} {rest} {word} g p w = record {
+pub gather-more : {s : ℕ} {ws : List ℕ} {out rest first word : ℕ} → Gathered s ws out rest → 0 < rest → FirstOf rest first → word ≡ getD ws first 0 → Gathered s ws (bitOr out word) (bitAnd rest (rest - 1))
+gather-more {s} {ws} {out} {rest} {first} {word} g p f w = record {
   fits = omega (arith, rest-lt rest p, g .fits);
   within = λ h e. g .within h (rest-has rest h e);
-  sound = λ j e. ⊎-elim (g .sound j) (λ x. (h₀, g .within h₀ (trailing rest p (g .fits) .member), subst (λ (v : ℕ). bit v j ≡ true) w x)) (or-has out word j e);
-  complete = λ h j e x. ⊎-elim (λ r. still h j x (has-rest rest h p (g .fits) r)) (λ o. inr (has-or-l out word j o)) (g .complete h j e x);
+  sound = λ j e. ⊎-elim (g .sound j) (λ x. (first, g .within first (least .member), subst (λ (v : ℕ). bit v j ≡ true) w x)) (or-has out word j e);
+  complete = λ h j e x. ⊎-elim (λ r. still h j x (has-rest rest least h p (g .fits) r)) (λ o. inr (has-or-l out word j o)) (g .complete h j e x);
 }
   where
-    h₀ : ℕ
-    h₀ = trailingZeros 64 rest
+    least : Least rest first
+    least = first-least f p
 
-    still : (h j : ℕ) → Holds ws h j → (h ≡ trailingZeros 64 rest) ⊎ (bit (bitAnd rest (rest - 1)) h ≡ true) → (bit (bitAnd rest (rest - 1)) h ≡ true) ⊎ (bit (bitOr out word) j ≡ true)
+    still : (h j : ℕ) → Holds ws h j → (h ≡ first) ⊎ (bit (bitAnd rest (rest - 1)) h ≡ true) → (bit (bitAnd rest (rest - 1)) h ≡ true) ⊎ (bit (bitOr out word) j ≡ true)
     still h j x (inl q) = inr (has-or-r out word j (ap (λ (v : ℕ). bit v j) (w ∙ ap (λ (n : ℕ). getD ws n 0) (sym q)) ∙ x))
     still h j x (inr r) = inl r
 

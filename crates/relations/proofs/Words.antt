@@ -12,7 +12,7 @@ use lib.Seq.{getD-set-same, getD-set-other, getD-take, getD-drop, drop-drop, dro
 use Rattle.tables.proofs.Numbers.{not-less}
 use Rattle.sets.specs.Bits.{positions, bit}
 use Rattle.relations.specs.Relations.{Relation}
-use Rattle.relations.specs.Words.{Holds, Is, front, next, Rest, Up}
+use Rattle.relations.specs.Words.{Holds, Is, front, next, Room, Rest, Up}
 use Rattle.sets.proofs.Bits.{bit-ext}
 use Rattle.sets.proofs.Members.{none-has}
 
@@ -54,23 +54,17 @@ module _ (m : ℕ) (w : List ℕ) (i : ℕ) where
   pub next-at : i < m → getD (next m w) i 0 ≡ getD w (positions + i) 0
   next-at h = getD-take m (drop positions w) i 0 h ∙ getD-drop positions w i 0
 
+pub room-front : {m : ℕ} {w : List ℕ} → Room m (positions + m) w → Room m m w
+room-front r = record { few = r .few; room = omega (arith, r .room) }
+
 -- ---- the words from m on
 
--- a call that writes nothing
-pub rest-same : {m need : ℕ} {w : List ℕ} → Rest m need w w
-rest-same = record { size = refl; past = refl; many = λ f. refl; short = λ l. refl }
-
--- a store below m keeps it, where m is at most 64 and the words are enough
-pub rest-set : {m need : ℕ} {w₀ w : List ℕ} {i : ℕ} (v : ℕ) → Rest m need w₀ w → m ≤ positions → need ≤ length w₀ → i < m → Rest m need w₀ (set w i v)
-rest-set {m} {w = w} {i = i} v g f l h = record {
-  size = length-set w i v ∙ g .size;
-  past = drop-set-lt m w i v h ∙ g .past;
-  many = λ n. absurd (omega arith);
-  short = λ n. absurd (omega arith);
-}
+-- a store below m keeps them
+rest-set : {m : ℕ} {w₀ w : List ℕ} {i : ℕ} (v : ℕ) → Rest m w₀ w → i < m → Rest m w₀ (set w i v)
+rest-set {m} {w = w} {i = i} v g h = record { size = length-set w i v ∙ g .size; past = drop-set-lt m w i v h ∙ g .past }
 
 -- the relation of the first m words and the rest fix every word
-pub rest-unique : {m need : ℕ} {w a b : List ℕ} {R : Relation} → Is (front m a) R → Is (front m b) R → Rest m need w a → Rest m need w b → a ≡ b
+pub rest-unique : {m : ℕ} {w a b : List ℕ} {R : Relation} → Is (front m a) R → Is (front m b) R → Rest m w a → Rest m w b → a ≡ b
 rest-unique {m} {a = a} {b = b} x y p q =
     let n : length a ≡ length b = p .size ∙ sym (q .size) in
     let l : length (take m a) ≡ length (take m b) = omega (arith, n, length-take m a, length-take m b) in
@@ -87,47 +81,43 @@ pub record Row (R : Relation) (i v : ℕ) : Type 0 where
   pub complete : (j : ℕ) → R i j → bit v j ≡ true
 
 -- of the first m words those from i on are those of R, the others are as they were, and so are the words from m on
-pub record Written (m need : ℕ) (R : Relation) (w₀ w : List ℕ) (i : ℕ) : Type 0 where
-  pub few : m ≤ positions
-  pub wide : m ≤ need
-  pub room : need ≤ length w₀
+pub record Written (m : ℕ) (R : Relation) (w₀ w : List ℕ) (i : ℕ) : Type 0 where
+  pub given : Room m m w₀
   pub within : i ≤ m
   pub before : (k : ℕ) → k < i → getD w k 0 ≡ getD w₀ k 0
-  pub rest : Rest m need w₀ w
+  pub rest : Rest m w₀ w
   pub rows : (k : ℕ) → i ≤ k → k < m → Row R k (getD w k 0)
 
-pub write-none : {m need : ℕ} {R : Relation} {w : List ℕ} → m ≤ positions → m ≤ need → need ≤ length w → Written m need R w w m
-write-none f d l = record { few = f; wide = d; room = l; within = omega arith; before = λ k h. refl; rest = rest-same; rows = λ k h n. absurd (omega arith) }
+pub write-none : {m : ℕ} {R : Relation} {w : List ℕ} → Room m m w → Written m R w w m
+write-none f = record { given = f; within = omega arith; before = λ k h. refl; rest = record { size = refl; past = refl }; rows = λ k h n. absurd (omega arith) }
 
-pub write-more : {m need : ℕ} {R : Relation} {w₀ w : List ℕ} {i k v : ℕ} → Written m need R w₀ w i → i ≡ k + 1 → Row R k v → Written m need R w₀ (set w k v) k
-write-more {m} {need} {R} {w₀} {w} {i} {k} {v} g e row = record {
-  few = g .few;
-  wide = g .wide;
-  room = g .room;
+pub write-more : {m : ℕ} {R : Relation} {w₀ w : List ℕ} {i k v : ℕ} → Written m R w₀ w i → i ≡ k + 1 → Row R k v → Written m R w₀ (set w k v) k
+write-more {m} {R} {w₀} {w} {i} {k} {v} g e row = record {
+  given = g .given;
   within = omega (arith, g .within);
   before = λ n h. getD-set-other w k n v 0 (λ q. omega arith) ∙ g .before n (omega arith);
-  rest = rest-set v (g .rest) (g .few) (g .room) (omega (arith, g .within));
+  rest = rest-set v (g .rest) (omega (arith, g .within));
   rows = λ n h l. ⊎-elim (here n) (there n l) (eq-or-lt-of-le h);
 }
   where
     here : (n : ℕ) → k ≡ n → Row R n (getD (set w k v) n 0)
-    here n q = subst (λ (x : ℕ). Row R x (getD (set w k v) x 0)) q (subst (Row R k) (sym (getD-set-same w k v 0 (omega (arith, g .rest .size, g .wide, g .room, g .within, e)))) row)
+    here n q = subst (λ (x : ℕ). Row R x (getD (set w k v) x 0)) q (subst (Row R k) (sym (getD-set-same w k v 0 (omega (arith, g .rest .size, g .given .room, g .within, e)))) row)
 
     there : (n : ℕ) → n < m → k < n → Row R n (getD (set w k v) n 0)
     there n l h = subst (Row R n) (sym (getD-set-other w k n v 0 (λ q. omega (arith, q, h)))) (g .rows n (omega (arith, e, h)) l)
 
 -- the next relation is as it was, and so is a word of it
-pub next-kept : {m need : ℕ} {R : Relation} {w₀ w : List ℕ} {i : ℕ} → Written m need R w₀ w i → drop positions w ≡ drop positions w₀
+pub next-kept : {m : ℕ} {R : Relation} {w₀ w : List ℕ} {i : ℕ} → Written m R w₀ w i → drop positions w ≡ drop positions w₀
 next-kept {m} {w₀ = w₀} {w = w} g = sym (past w) ∙ ap (drop (positions - m)) (g .rest .past) ∙ past w₀
   where
     past : (l : List ℕ) → drop (positions - m) (drop m l) ≡ drop positions l
-    past l = let n : m + (positions - m) ≡ positions = omega (arith, g .few) in drop-drop (positions - m) m l ∙ ap (λ (n : ℕ). drop n l) n
+    past l = let n : m + (positions - m) ≡ positions = omega (arith, g .given .few) in drop-drop (positions - m) m l ∙ ap (λ (n : ℕ). drop n l) n
 
-pub kept : {m need : ℕ} {R : Relation} {w₀ w : List ℕ} {i : ℕ} (g : Written m need R w₀ w i) (k : ℕ) → getD w (positions + k) 0 ≡ getD w₀ (positions + k) 0
+pub kept : {m : ℕ} {R : Relation} {w₀ w : List ℕ} {i : ℕ} (g : Written m R w₀ w i) (k : ℕ) → getD w (positions + k) 0 ≡ getD w₀ (positions + k) 0
 kept {w₀ = w₀} {w = w} g k = sym (getD-drop positions w k 0) ∙ ap (λ (l : List ℕ). getD l k 0) (next-kept g) ∙ getD-drop positions w₀ k 0
 
-pub written : {m need : ℕ} {R : Relation} {w₀ w : List ℕ} {i : ℕ} → Written m need R w₀ w i → i ≤ 0 → ((k j : ℕ) → R k j → k < m) → Is (front m w) R
-written {m} {need} {R} {w₀} {w} {i} g z low = record {
+pub written : {m : ℕ} {R : Relation} {w₀ w : List ℕ} {i : ℕ} → Written m R w₀ w i → i ≤ 0 → ((k j : ℕ) → R k j → k < m) → Is (front m w) R
+written {m} {R} {w₀} {w} {i} g z low = record {
   sound = λ k j e. let l = front-below m w k j e in g .rows k (omega arith) l .sound j (sym (ap (λ (x : ℕ). bit x j) (front-at m w k l)) ∙ e);
   complete = λ k j r. let l = low k j r in ap (λ (x : ℕ). bit x j) (front-at m w k l) ∙ g .rows k (omega arith) l .complete j r;
 }

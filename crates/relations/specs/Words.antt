@@ -21,19 +21,22 @@ pub record Image (s : ℕ) (ws : List ℕ) (r : ℕ) : Type 0 where
   pub sound : (j : ℕ) → bit r j ≡ true → (h : ℕ) × (bit s h ≡ true) × Holds ws h j
   pub complete : (h j : ℕ) → bit s h ≡ true → Holds ws h j → bit r j ≡ true
 
--- the first relation of a lent run of words, and the next, which starts at word 64 for any m
+-- the first relation of a lent run of words, and the next, which starts at the same word for any m
 abbrev pub front : ℕ → List ℕ → List ℕ
 front m w = take m w
 
 abbrev pub next : ℕ → List ℕ → List ℕ
 next m w = take m (drop positions w)
 
--- the words from m on are as they were; all are where m is above 64 or they were fewer than need
-pub record Rest (m need : ℕ) (before after : List ℕ) : Type 0 where
+-- the m positions are positions of a word, and there are as many words as a function goes over
+pub record Room (m words : ℕ) (w : List ℕ) : Type 0 where
+  pub few : m ≤ positions
+  pub room : words ≤ length w
+
+-- the words from m on are as they were
+pub record Rest (m : ℕ) (before after : List ℕ) : Type 0 where
   pub size : length after ≡ length before
   pub past : drop m after ≡ drop m before
-  pub many : positions < m → after ≡ before
-  pub short : length before < need → after ≡ before
 
 -- no position is related to one before it
 abbrev pub Up : Relation → Type 0

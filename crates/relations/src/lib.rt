@@ -1,12 +1,11 @@
-// Relations on m positions as m words; a second relation starts at word 64. A function writes the first m words only, and nothing where m is above 64 or the words are too few.
+// Relations on m positions as m words; a second relation starts at word POSITIONS. A caller shows that m is no more than that and that the words are there. A function writes the first m words only.
 ghost use mathlib.Core.Path.{_≡_};
 ghost use mathlib.Core.Bool.{cond};
-ghost use Prim.Native.Nat.{_+_, _^_, _<_, _≤_};
+ghost use Prim.Native.Nat.{_+_, _^_, _<_};
 ghost use lib.Bits.{bitOr};
-ghost use lib.ListN.{length};
-ghost use Rattle.sets.specs.Bits.{bit};
+ghost use Rattle.sets.specs.Bits.{positions, bit};
 ghost use Rattle.relations.specs.Relations.{Or, And, Then, Plus};
-ghost use Rattle.relations.specs.Words.{Holds, Is, Image, front, next, Rest, Up, Empty, Gap, Single};
+ghost use Rattle.relations.specs.Words.{Holds, Is, Image, front, next, Room, Rest, Up, Empty, Gap, Single};
 
 // The union of the words of b at the members of s.
 pub fn image(s: u64, b: &[u64]) -> u64
@@ -15,7 +14,7 @@ pub fn image(s: u64, b: &[u64]) -> u64
     let mut out: u64 = 0;
     let mut rest = s;
     while rest != 0 {
-        out |= sets::word(b, u64::trailing_zeros(rest));
+        out |= sets::word(b, sets::first(rest));
         rest &= rest - 1;
     }
     out
@@ -23,16 +22,11 @@ pub fn image(s: u64, b: &[u64]) -> u64
 
 // The empty relation.
 pub fn clear(m: u32, w: &mut [u64])
-    ensures { λ _. ⌜ (m ≤ 64 → m ≤ length (now (w .entry)) → Is (front m (now (w .exit))) Empty) ⌝ }
-    ensures rest { λ _. ⌜ Rest m m (now (w .entry)) (now (w .exit)) ⌝ }
+    requires { ⌜ Room m m (now w) ⌝ }
+    ensures { λ _. ⌜ Is (front m (now (w .exit))) Empty ⌝ }
+    ensures rest { λ _. ⌜ Rest m (now (w .entry)) (now (w .exit)) ⌝ }
 {
-    if m > 64 {
-        return;
-    }
     let mut i = m as usize;
-    if w.len() < i {
-        return;
-    }
     while i > 0 {
         i -= 1;
         w[i] = 0;
@@ -41,7 +35,7 @@ pub fn clear(m: u32, w: &mut [u64])
 
 // The gaps that start at i, from those that start at i + 1.
 fn gap_word(stop: u64, i: u32, after: u64) -> u64
-    requires { ⌜ i < 64 ⌝ }
+    requires { ⌜ i < positions ⌝ }
     ensures { λ r. ⌜ r ≡ cond (bit stop i) (2 ^ i) (bitOr after (2 ^ i)) ⌝ }
 {
     if sets::has(stop, i) {
@@ -52,15 +46,10 @@ fn gap_word(stop: u64, i: u32, after: u64) -> u64
 
 // The pairs i, j with no position of stop in [i, j).
 pub fn gaps(m: u32, stop: u64, w: &mut [u64])
-    ensures { λ _. ⌜ (m ≤ 64 → m ≤ length (now (w .entry)) → Is (front m (now (w .exit))) (Gap m stop)) ⌝ }
-    ensures rest { λ _. ⌜ Rest m m (now (w .entry)) (now (w .exit)) ⌝ }
+    requires { ⌜ Room m m (now w) ⌝ }
+    ensures { λ _. ⌜ Is (front m (now (w .exit))) (Gap m stop) ⌝ }
+    ensures rest { λ _. ⌜ Rest m (now (w .entry)) (now (w .exit)) ⌝ }
 {
-    if m > 64 {
-        return;
-    }
-    if w.len() < m as usize {
-        return;
-    }
     let mut gap: u64 = 0;
     let mut i = m;
     while i > 0 {
@@ -85,15 +74,10 @@ fn single_word(all: u64, marked: u64, i: u32, gap: u64, single: u64) -> u64
 
 // The pairs i, j with exactly one position of all in [i, j), a marked one.
 pub fn singles(m: u32, all: u64, marked: u64, w: &mut [u64])
-    ensures { λ _. ⌜ (m ≤ 64 → m ≤ length (now (w .entry)) → Is (front m (now (w .exit))) (Single m all marked)) ⌝ }
-    ensures rest { λ _. ⌜ Rest m m (now (w .entry)) (now (w .exit)) ⌝ }
+    requires { ⌜ Room m m (now w) ⌝ }
+    ensures { λ _. ⌜ Is (front m (now (w .exit))) (Single m all marked) ⌝ }
+    ensures rest { λ _. ⌜ Rest m (now (w .entry)) (now (w .exit)) ⌝ }
 {
-    if m > 64 {
-        return;
-    }
-    if w.len() < m as usize {
-        return;
-    }
     let mut gap: u64 = 0;
     let mut single: u64 = 0;
     let mut i = m;
@@ -107,72 +91,52 @@ pub fn singles(m: u32, all: u64, marked: u64, w: &mut [u64])
 
 // The first relation or the next.
 pub fn union(m: u32, w: &mut [u64])
-    ensures { λ _. ⌜ (m ≤ 64 → 64 + m ≤ length (now (w .entry)) → Is (front m (now (w .exit))) (Or (Holds (front m (now (w .entry)))) (Holds (next m (now (w .entry)))))) ⌝ }
-    ensures rest { λ _. ⌜ Rest m (64 + m) (now (w .entry)) (now (w .exit)) ⌝ }
+    requires { ⌜ Room m (positions + m) (now w) ⌝ }
+    ensures { λ _. ⌜ Is (front m (now (w .exit))) (Or (Holds (front m (now (w .entry)))) (Holds (next m (now (w .entry))))) ⌝ }
+    ensures rest { λ _. ⌜ Rest m (now (w .entry)) (now (w .exit)) ⌝ }
 {
-    if m > 64 {
-        return;
-    }
     let mut i = m as usize;
-    if w.len() < 64 + i {
-        return;
-    }
     while i > 0 {
         i -= 1;
-        w[i] = w[i] | w[64 + i];
+        w[i] = w[i] | w[sets::POSITIONS + i];
     }
 }
 
 // The first relation and the next, of the same pairs.
 pub fn meet(m: u32, w: &mut [u64])
-    ensures { λ _. ⌜ (m ≤ 64 → 64 + m ≤ length (now (w .entry)) → Is (front m (now (w .exit))) (And (Holds (front m (now (w .entry)))) (Holds (next m (now (w .entry)))))) ⌝ }
-    ensures rest { λ _. ⌜ Rest m (64 + m) (now (w .entry)) (now (w .exit)) ⌝ }
+    requires { ⌜ Room m (positions + m) (now w) ⌝ }
+    ensures { λ _. ⌜ Is (front m (now (w .exit))) (And (Holds (front m (now (w .entry)))) (Holds (next m (now (w .entry))))) ⌝ }
+    ensures rest { λ _. ⌜ Rest m (now (w .entry)) (now (w .exit)) ⌝ }
 {
-    if m > 64 {
-        return;
-    }
     let mut i = m as usize;
-    if w.len() < 64 + i {
-        return;
-    }
     while i > 0 {
         i -= 1;
-        w[i] = w[i] & w[64 + i];
+        w[i] = w[i] & w[sets::POSITIONS + i];
     }
 }
 
 // The first relation, then the next.
 pub fn compose(m: u32, w: &mut [u64])
-    ensures { λ _. ⌜ (m ≤ 64 → 64 + m ≤ length (now (w .entry)) → Is (front m (now (w .exit))) (Then (Holds (front m (now (w .entry)))) (Holds (next m (now (w .entry)))))) ⌝ }
-    ensures rest { λ _. ⌜ Rest m (64 + m) (now (w .entry)) (now (w .exit)) ⌝ }
+    requires { ⌜ Room m (positions + m) (now w) ⌝ }
+    ensures { λ _. ⌜ Is (front m (now (w .exit))) (Then (Holds (front m (now (w .entry)))) (Holds (next m (now (w .entry))))) ⌝ }
+    ensures rest { λ _. ⌜ Rest m (now (w .entry)) (now (w .exit)) ⌝ }
 {
-    if m > 64 {
-        return;
-    }
     let mut i = m as usize;
-    let end = 64 + i;
-    if w.len() < end {
-        return;
-    }
+    let end = sets::POSITIONS + i;
     while i > 0 {
         i -= 1;
-        let r = image(w[i], &w[64..end]);
+        let r = image(w[i], &w[sets::POSITIONS..end]);
         w[i] = r;
     }
 }
 
 // One or more steps of a relation that goes up: the words after i are closed before word i is.
 pub fn close(m: u32, w: &mut [u64])
-    ensures { λ _. ⌜ (m ≤ 64 → m ≤ length (now (w .entry)) → Up (Holds (front m (now (w .entry)))) → Is (front m (now (w .exit))) (Plus (Holds (front m (now (w .entry)))))) ⌝ }
-    ensures rest { λ _. ⌜ Rest m m (now (w .entry)) (now (w .exit)) ⌝ }
+    requires { ⌜ Room m m (now w) × Up (Holds (front m (now w))) ⌝ }
+    ensures { λ _. ⌜ Is (front m (now (w .exit))) (Plus (Holds (front m (now (w .entry))))) ⌝ }
+    ensures rest { λ _. ⌜ Rest m (now (w .entry)) (now (w .exit)) ⌝ }
 {
-    if m > 64 {
-        return;
-    }
     let end = m as usize;
-    if w.len() < end {
-        return;
-    }
     let mut i = end;
     while i > 0 {
         i -= 1;

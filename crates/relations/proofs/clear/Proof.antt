@@ -1,25 +1,19 @@
 -- The invariant: the words from i on are empty.
 use native.Mathlib.Omega.{arith}
 use Rattle.relations.proofs.Rows.{empty-row}
-use Rattle.relations.proofs.Words.{rest-same, Written, write-none, write-more, written}
+use Rattle.relations.proofs.Words.{Written, write-none, write-more, written}
 use Rattle.relations.specs.Words.{Empty}
 use Rattle.relations.proofs.clear.Statement.{statement}
 use Rattle.relations.proofs.clear.Tie as tie
 
 abbrev Inv-loop : tie.InvT-loop
-Inv-loop m w₀ i₀ w i = Written m m Empty w₀ w i
+Inv-loop m w₀ i₀ w i = Written m Empty w₀ w i
 
 abbrev μ-loop : tie.MeasureT-loop
 μ-loop m w₀ i₀ w i = i
 
-returns : tie.Need-returns Inv-loop μ-loop
-returns c = (λ f l. absurd (omega arith), rest-same)
-
-returns-2 : tie.Need-returns-2 Inv-loop μ-loop
-returns-2 c = (λ f l. absurd (omega arith), rest-same)
-
 loop-holds : tie.Need-loop-holds Inv-loop μ-loop
-loop-holds c = write-none (omega arith) (omega arith) (omega arith)
+loop-holds c = write-none (c .pre)
 
 sub-i : tie.Need-sub-i Inv-loop μ-loop
 sub-i c = omega arith
@@ -39,8 +33,8 @@ loop-again c = write-more (c .before .loop .inv) (omega arith) (empty-row _)
 same-length : tie.Need-same-length Inv-loop μ-loop
 same-length c = c .before .loop .inv .rest .size
 
-returns-3 : tie.Need-returns-3 Inv-loop μ-loop
-returns-3 c = (λ f l. written (c .before .loop .inv) (c .loop-test .left) (λ k j r. absurd r), c .before .loop .inv .rest)
+returns : tie.Need-returns Inv-loop μ-loop
+returns c = (written (c .before .loop .inv) (c .loop-test .left) (λ k j r. absurd r), c .before .loop .inv .rest)
 
 pub clear-spec : {M : Type 1} → statement M
 clear-spec =
@@ -48,8 +42,6 @@ clear-spec =
     (tie.spec
     Inv-loop
     μ-loop
-    returns
-    returns-2
     loop-holds
     sub-i
     mul-w
@@ -57,4 +49,4 @@ clear-spec =
     loop-less
     loop-again
     same-length
-    returns-3)
+    returns)

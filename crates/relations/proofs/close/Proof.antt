@@ -1,28 +1,23 @@
--- The invariant: the words from i on hold the sweep, and the others are as they were.
+-- The invariant: the words from i on are closed, and the others are as they were.
 use native.Mathlib.Omega.{arith}
 use borrow.Author.Needs.{needs}
 use mathlib.Core.Path.{refl, sym}
 use lib.Seq.{length-take-le}
-use Rattle.relations.proofs.Closure.{Sweep, sweep-low, sweep-row, sweep-closes}
-use Rattle.relations.proofs.Words.{is-map, rest-same, Written, write-none, write-more, written}
+use Rattle.relations.proofs.Closure.{plus-low, plus-row}
+use Rattle.relations.proofs.Words.{Written, write-none, write-more, written}
+use Rattle.relations.specs.Relations.{Plus}
 use Rattle.relations.specs.Words.{Holds, front}
 use Rattle.relations.proofs.close.Statement.{statement}
 use Rattle.relations.proofs.close.Tie as tie
 
 abbrev Inv-loop : tie.InvT-loop
-Inv-loop m w₀ end i₀ w i = Written m m (Sweep (Holds (front m w₀))) w₀ w i
+Inv-loop m w₀ end i₀ w i = Written m (Plus (Holds (front m w₀))) w₀ w i
 
 abbrev μ-loop : tie.MeasureT-loop
 μ-loop m w₀ end i₀ w i = i
 
-returns : tie.Need-returns Inv-loop μ-loop
-returns c = (λ f l. absurd (omega arith), rest-same)
-
-returns-2 : tie.Need-returns-2 Inv-loop μ-loop
-returns-2 c = (λ f l. absurd (omega arith), rest-same)
-
 loop-holds : tie.Need-loop-holds Inv-loop μ-loop
-loop-holds c = write-none (omega arith) (omega arith) (omega arith)
+loop-holds c = write-none (c .before .pre .0)
 
 sub-i : tie.Need-sub-i Inv-loop μ-loop
 sub-i c = omega arith
@@ -52,15 +47,13 @@ loop-less : tie.Need-loop-less Inv-loop μ-loop
 loop-less c = omega arith
 
 loop-again : tie.Need-loop-again Inv-loop μ-loop
-loop-again c = let g = c .before .before .before .before .loop .inv in write-more g (omega arith) (sweep-row _ g (omega arith) refl (c .image .ensures))
+loop-again c = let g = c .before .before .before .before .loop .inv in write-more g (omega arith) (plus-row (c .before .before .before .before .before .before .pre .1) _ g (omega arith) refl (c .image .ensures))
 
 same-length : tie.Need-same-length Inv-loop μ-loop
 same-length c = c .before .loop .inv .rest .size
 
-returns-3 : tie.Need-returns-3 Inv-loop μ-loop
-returns-3 c = let g = c .before .loop .inv in
-    let is = written g (c .loop-test .left) (sweep-low _ (c .before .before .before .before .before .args .w .now)) in
-    (λ f l up. is-map is (sweep-closes up), g .rest)
+returns : tie.Need-returns Inv-loop μ-loop
+returns c = let g = c .before .loop .inv in (written g (c .loop-test .left) (plus-low _ (c .before .before .before .args .w .now)), g .rest)
 
 pub close-spec : {M : Type 1} → statement M
 close-spec =
@@ -68,8 +61,6 @@ close-spec =
     (tie.spec
     Inv-loop
     μ-loop
-    returns
-    returns-2
     loop-holds
     sub-i
     mul-s
@@ -82,4 +73,4 @@ close-spec =
     loop-less
     loop-again
     same-length
-    returns-3)
+    returns)

@@ -3,30 +3,25 @@ use Prim.Native.Nat.{_+_}
 use mathlib.Core.Path.{_≡_}
 use native.Mathlib.Omega.{arith}
 use borrow.Author.Needs.{needs}
+use Rattle.sets.specs.Bits.{positions}
 use Rattle.relations.proofs.Rows.{then-row, then-low}
-use Rattle.relations.proofs.Words.{rest-same, Written, write-none, write-more, written, next-kept}
+use Rattle.relations.proofs.Words.{room-front, Written, write-none, write-more, written, next-kept}
 use Rattle.relations.specs.Relations.{Then}
 use Rattle.relations.specs.Words.{Holds, front, next}
 use Rattle.relations.proofs.compose.Statement.{statement}
 use Rattle.relations.proofs.compose.Tie as tie
 
 abbrev Inv-loop : tie.InvT-loop
-Inv-loop m w₀ i₀ end w i = Written m (64 + m) (Then (Holds (front m w₀)) (Holds (next m w₀))) w₀ w i × (end ≡ 64 + m)
+Inv-loop m w₀ i₀ end w i = Written m (Then (Holds (front m w₀)) (Holds (next m w₀))) w₀ w i × (end ≡ positions + m)
 
 abbrev μ-loop : tie.MeasureT-loop
 μ-loop m w₀ i₀ end w i = i
 
-returns : tie.Need-returns Inv-loop μ-loop
-returns c = (λ f l. absurd (omega arith), rest-same)
-
 add-end : tie.Need-add-end Inv-loop μ-loop
 add-end c = omega arith
 
-returns-2 : tie.Need-returns-2 Inv-loop μ-loop
-returns-2 c = (λ f l. absurd (omega arith), rest-same)
-
 loop-holds : tie.Need-loop-holds Inv-loop μ-loop
-loop-holds c = (write-none (omega arith) (omega arith) (omega arith), omega arith)
+loop-holds c = (write-none (room-front (c .before .pre)), omega arith)
 
 sub-i : tie.Need-sub-i Inv-loop μ-loop
 sub-i c = omega arith
@@ -59,7 +54,7 @@ loop-less : tie.Need-loop-less Inv-loop μ-loop
 loop-less c = omega arith
 
 loop-again : tie.Need-loop-again Inv-loop μ-loop
-loop-again c = let s = c .before .before .before .before .before .before .before .before .before .args in
+loop-again c = let s = c .before .before .before .before .before .before .before .args in
     let l = c .before .before .before .before .before .loop in
     let g = l .inv .0 in
     (write-more g (omega arith) (then-row (s .m) (s .w .now) (l .w) (omega (arith, g .within)) (g .before _ (omega arith)) (next-kept g) (l .inv .1) (c .image .ensures)), l .inv .1)
@@ -67,8 +62,8 @@ loop-again c = let s = c .before .before .before .before .before .before .before
 same-length : tie.Need-same-length Inv-loop μ-loop
 same-length c = c .before .loop .inv .0 .rest .size
 
-returns-3 : tie.Need-returns-3 Inv-loop μ-loop
-returns-3 c = (λ f l. written (c .before .loop .inv .0) (c .loop-test .left) (then-low _ (c .before .before .before .before .before .args .w .now)), c .before .loop .inv .0 .rest)
+returns : tie.Need-returns Inv-loop μ-loop
+returns c = (written (c .before .loop .inv .0) (c .loop-test .left) (then-low _ (c .before .before .before .args .w .now)), c .before .loop .inv .0 .rest)
 
 pub compose-spec : {M : Type 1} → statement M
 compose-spec =
@@ -76,9 +71,7 @@ compose-spec =
     (tie.spec
     Inv-loop
     μ-loop
-    returns
     add-end
-    returns-2
     loop-holds
     sub-i
     mul-image
@@ -92,4 +85,4 @@ compose-spec =
     loop-less
     loop-again
     same-length
-    returns-3)
+    returns)

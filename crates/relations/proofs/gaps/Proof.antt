@@ -1,25 +1,19 @@
 -- The invariant: the words from i on hold the gaps from i on, and gap has those from i.
 use native.Mathlib.Omega.{arith}
 use Rattle.relations.proofs.Leaves.{gap-row, gap-end, gap-low}
-use Rattle.relations.proofs.Words.{rest-same, Row, Written, write-none, write-more, written}
+use Rattle.relations.proofs.Words.{Row, Written, write-none, write-more, written}
 use Rattle.relations.specs.Words.{Gap}
 use Rattle.relations.proofs.gaps.Statement.{statement}
 use Rattle.relations.proofs.gaps.Tie as tie
 
 abbrev Inv-loop : tie.InvT-loop
-Inv-loop m stop w₀ gap₀ i₀ w gap i = Written m m (Gap m stop) w₀ w i × Row (Gap m stop) i gap
+Inv-loop m stop w₀ gap₀ i₀ w gap i = Written m (Gap m stop) w₀ w i × Row (Gap m stop) i gap
 
 abbrev μ-loop : tie.MeasureT-loop
 μ-loop m stop w₀ gap₀ i₀ w gap i = i
 
-returns : tie.Need-returns Inv-loop μ-loop
-returns c = (λ f l. absurd (omega arith), rest-same)
-
-returns-2 : tie.Need-returns-2 Inv-loop μ-loop
-returns-2 c = (λ f l. absurd (omega arith), rest-same)
-
 loop-holds : tie.Need-loop-holds Inv-loop μ-loop
-loop-holds c = (write-none (omega arith) (omega arith) (omega arith), gap-end _ _)
+loop-holds c = (write-none (c .before .pre), gap-end _ _)
 
 sub-i : tie.Need-sub-i Inv-loop μ-loop
 sub-i c = omega arith
@@ -47,8 +41,8 @@ loop-again c = let g = c .before .before .loop .inv in
 same-length : tie.Need-same-length Inv-loop μ-loop
 same-length c = c .before .loop .inv .0 .rest .size
 
-returns-3 : tie.Need-returns-3 Inv-loop μ-loop
-returns-3 c = (λ f l. written (c .before .loop .inv .0) (c .loop-test .left) (gap-low _ _), c .before .loop .inv .0 .rest)
+returns : tie.Need-returns Inv-loop μ-loop
+returns c = (written (c .before .loop .inv .0) (c .loop-test .left) (gap-low _ _), c .before .loop .inv .0 .rest)
 
 pub gaps-spec : {M : Type 1} → statement M
 gaps-spec =
@@ -56,8 +50,6 @@ gaps-spec =
     (tie.spec
     Inv-loop
     μ-loop
-    returns
-    returns-2
     loop-holds
     sub-i
     gap-word-requires
@@ -67,4 +59,4 @@ gaps-spec =
     loop-less
     loop-again
     same-length
-    returns-3)
+    returns)

@@ -2,25 +2,19 @@
 use native.Mathlib.Omega.{arith}
 use borrow.Author.Needs.{needs}
 use Rattle.relations.proofs.Leaves.{gap-row, gap-end, single-row, single-end, single-low}
-use Rattle.relations.proofs.Words.{rest-same, Row, Written, write-none, write-more, written}
+use Rattle.relations.proofs.Words.{Row, Written, write-none, write-more, written}
 use Rattle.relations.specs.Words.{Gap, Single}
 use Rattle.relations.proofs.singles.Statement.{statement}
 use Rattle.relations.proofs.singles.Tie as tie
 
 abbrev Inv-loop : tie.InvT-loop
-Inv-loop m all marked w₀ gap₀ single₀ i₀ w gap single i = Written m m (Single m all marked) w₀ w i × Row (Gap m all) i gap × Row (Single m all marked) i single
+Inv-loop m all marked w₀ gap₀ single₀ i₀ w gap single i = Written m (Single m all marked) w₀ w i × Row (Gap m all) i gap × Row (Single m all marked) i single
 
 abbrev μ-loop : tie.MeasureT-loop
 μ-loop m all marked w₀ gap₀ single₀ i₀ w gap single i = i
 
-returns : tie.Need-returns Inv-loop μ-loop
-returns c = (λ f l. absurd (omega arith), rest-same)
-
-returns-2 : tie.Need-returns-2 Inv-loop μ-loop
-returns-2 c = (λ f l. absurd (omega arith), rest-same)
-
 loop-holds : tie.Need-loop-holds Inv-loop μ-loop
-loop-holds c = (write-none (omega arith) (omega arith) (omega arith), gap-end _ _, single-end _ _ _)
+loop-holds c = (write-none (c .before .pre), gap-end _ _, single-end _ _ _)
 
 sub-i : tie.Need-sub-i Inv-loop μ-loop
 sub-i c = omega arith
@@ -51,8 +45,8 @@ loop-again c = let g = c .before .before .before .loop .inv in
 same-length : tie.Need-same-length Inv-loop μ-loop
 same-length c = c .before .loop .inv .0 .rest .size
 
-returns-3 : tie.Need-returns-3 Inv-loop μ-loop
-returns-3 c = (λ f l. written (c .before .loop .inv .0) (c .loop-test .left) (single-low _ _ _), c .before .loop .inv .0 .rest)
+returns : tie.Need-returns Inv-loop μ-loop
+returns c = (written (c .before .loop .inv .0) (c .loop-test .left) (single-low _ _ _), c .before .loop .inv .0 .rest)
 
 pub singles-spec : {M : Type 1} → statement M
 singles-spec =
@@ -60,8 +54,6 @@ singles-spec =
     (tie.spec
     Inv-loop
     μ-loop
-    returns
-    returns-2
     loop-holds
     sub-i
     single-word-requires
@@ -72,4 +64,4 @@ singles-spec =
     loop-less
     loop-again
     same-length
-    returns-3)
+    returns)

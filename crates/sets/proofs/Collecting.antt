@@ -1,0 +1,55 @@
+-- Sets that are collected position by position: the laws of a loop that tests one position after the other.
+use mathlib.Core.Path.{_≡_, refl, sym, ap}
+use mathlib.Core.Bool.{Bool, true, false, _&&_, _||_}
+use Prim.Native.Nat.{ℕ, _+_, _^_, _<_}
+use native.Mathlib.Omega.{arith}
+use native.Mathlib.Decide.{decLt, ℕ-discrete}
+use lib.Bits.{bitOr}
+use lib.Dec.{eqb, ltb}
+use borrow.Author.Tests.{lt-ltb, le-ltb, eq-eqb, ne-eqb}
+use Rattle.tables.proofs.Numbers.{not-less}
+use Rattle.sets.specs.Bits.{bit}
+use Rattle.sets.specs.Collecting.{Added, Collects}
+use Rattle.sets.proofs.Bits.{bit-or, bit-none, bit-pow}
+
+-- ---- one position more, or none
+
+pub added : (w k : ℕ) {b : Bool} → b ≡ true → Added w k b (bitOr w (2 ^ k))
+added w k e = record { members = λ j. rw (e, bit-or w (2 ^ k) j, bit-pow k j) (itself (bit w j) (eqb j k)) }
+  where
+    itself : (x y : Bool) → (x || y) ≡ (x || (y && true))
+    itself true y = refl
+    itself false true = refl
+    itself false false = refl
+
+pub not-added : (w k : ℕ) {b : Bool} → b ≡ false → Added w k b w
+not-added w k e = record { members = λ j. rw e (itself (bit w j) (eqb j k)) }
+  where
+    itself : (x y : Bool) → x ≡ (x || (y && false))
+    itself true y = refl
+    itself false true = refl
+    itself false false = refl
+
+-- ---- the positions below n that pass a test
+
+pub collects-none : (test : ℕ → Bool) → Collects test 0 0
+collects-none test = record { members = λ k. rw (bit-none k, le-ltb k 0 (omega arith)) }
+
+module _ (test : ℕ → Bool) where
+  below-or-at : (n k : ℕ) → ((ltb k n && test k) || (eqb k n && test n)) ≡ (ltb k (n + 1) && test k)
+  below-or-at n k = go (decLt k n) (ℕ-discrete k n)
+    where
+      or-itself : (b : Bool) → (b || false) ≡ b
+      or-itself true = refl
+      or-itself false = refl
+
+      go : Dec (k < n) → Dec (k ≡ n) → ((ltb k n && test k) || (eqb k n && test n)) ≡ (ltb k (n + 1) && test k)
+      go (yes h) d = rw (lt-ltb k n h, ne-eqb k n (λ e. omega arith), lt-ltb k (n + 1) (omega arith)) (or-itself (test k))
+      go (no f) (yes e) = rw (le-ltb k n (not-less f), eq-eqb k n e, lt-ltb k (n + 1) (omega arith)) (ap test (sym e))
+      go (no f) (no g) = let l = not-less f in rw (le-ltb k n l, ne-eqb k n g, le-ltb k (n + 1) (omega arith))
+
+pub collects-more : {test : ℕ → Bool} {n w v : ℕ} {b : Bool} → Collects test n w → b ≡ test n → Added w n b v → Collects test (n + 1) v
+collects-more {test} {n} {w} c e a = record { members = λ k. rw (a .members k, c .members k, e) (below-or-at test n k) }
+
+pub collected : {test : ℕ → Bool} {n w k : ℕ} → Collects test n w → k < n → bit w k ≡ test k
+collected {n = n} {k = k} c h = rw (lt-ltb k n h) at (c .members k)
