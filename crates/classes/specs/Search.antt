@@ -5,7 +5,9 @@ use mathlib.Core.Bool.{Bool, true, false, cond}
 use mathlib.Core.List.{List}
 use lib.ListN.{getD, set}
 use lib.Dec.{eqb}
+use Rattle.schema.specs.Kinds as kind
 use Rattle.schema.specs.Relations.{Child}
+use Rattle.schema.specs.RowRule.{maxRows}
 use Rattle.schema.specs.Rows.{kindOf, aOf, bOf, childA, childB}
 use Rattle.classes.specs.Least.{Common, Before}
 use Rattle.classes.specs.declared.Found.{Found}
@@ -15,9 +17,9 @@ use Rattle.classes.specs.declared.Mention.the-variants.{Of, NoMention}
 use Rattle.classes.specs.declared.Part.{Part}
 use Rattle.classes.specs.declared.Part.the-variants.{Namespace, Local}
 
--- a table of 512 rows and a row that breaks off
+-- the rows of a table, and one that breaks off at its end
 abbrev pub markedRows : ℕ
-markedRows = 513
+markedRows = maxRows + 1
 
 abbrev pub Marked : List ℕ → ℕ → Type 0
 Marked m r = getD m r 0 ≡ 1
@@ -33,8 +35,8 @@ pub record Closure (s m m′ : List ℕ) : Type 0 where
 
 -- the namespace or the local number that a row names
 abbrev pub mentionBy : Part → ℕ → ℕ → ℕ → Mention
-mentionBy Namespace k a b = cond (eqb k 17) (Of a) (cond (eqb k 18) (Of a) NoMention)
-mentionBy Local k a b = cond (eqb k 18) (Of b) NoMention
+mentionBy Namespace k a b = cond (eqb k kind.nsName) (Of a) (cond (eqb k kind.name) (Of a) NoMention)
+mentionBy Local k a b = cond (eqb k kind.name) (Of b) NoMention
 
 abbrev pub mentionOf : List ℕ → ℕ → Part → Mention
 mentionOf s r part = mentionBy part (kindOf s r) (aOf s r) (bOf s r)

@@ -27,11 +27,8 @@ enum Mention {
     NoMention,
 }
 
-// The most rows that a schema may have.
-const MAX_ROWS: usize = 512;
-
-// Rows of such a table that can be a class: one that breaks off at its end is another.
-const MARKED_ROWS: u32 = 513;
+// Rows of a table that can be a class: one that breaks off at its end is another.
+const MARKED_ROWS: u32 = schema::MAX_ROWS as u32 + 1;
 
 // Numbers to try: one for each of these rows, and one that none of them mentions.
 const MAX_CANDIDATES: usize = MARKED_ROWS as usize + 1;
@@ -44,16 +41,16 @@ fn class_holds(schema: &[u32], row: u32, namespace: u32, local: u32) -> bool
     let a = schema::field_a(schema, row);
     let b = schema::field_b(schema, row);
     match kind {
-        16 => !except_holds(schema, row, a, namespace, local),
-        17 => {
+        schema::ANY_NAME => !except_holds(schema, row, a, namespace, local),
+        schema::NS_NAME => {
             if namespace == a {
                 !except_holds(schema, row, b, namespace, local)
             } else {
                 false
             }
         }
-        18 => { if namespace == a { local == b } else { false } }
-        19 => {
+        schema::NAME => { if namespace == a { local == b } else { false } }
+        schema::NAME_CHOICE => {
             if except_holds(schema, row, a, namespace, local) {
                 true
             } else {
@@ -124,16 +121,16 @@ fn mention_of(schema: &[u32], row: u32, part: Part) -> Mention
     let kind = schema::kind(schema, row);
     match part {
         Part::Namespace => {
-            if kind == 17 {
+            if kind == schema::NS_NAME {
                 return Mention::Of(schema::field_a(schema, row));
             }
-            if kind == 18 {
+            if kind == schema::NAME {
                 return Mention::Of(schema::field_a(schema, row));
             }
             Mention::NoMention
         }
         Part::Local => {
-            if kind == 18 {
+            if kind == schema::NAME {
                 return Mention::Of(schema::field_b(schema, row));
             }
             Mention::NoMention
@@ -325,7 +322,7 @@ fn try_names(
 pub fn least_common(schema: &[u32], first: u32, second: u32) -> Found
     ensures { λ r. ⌜ LeastAnswer (now (schema .entry)) first second r ⌝ }
 {
-    if MAX_ROWS < schema.len() / 3 {
+    if schema::MAX_ROWS < schema.len() / 3 {
         return Found::Nothing;
     }
     let mut marks = [0u32; MARKED_ROWS as usize];

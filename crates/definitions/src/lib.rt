@@ -11,7 +11,7 @@ ghost use Rattle.definitions.specs.Definitions.{isDefinition, Definition
 fn definition_count(schema: &[u32], d: u32) -> u32
     ensures { λ n. ⌜ n ≡ cond (isDefinition (now (schema .entry)) d) 1 0 ⌝ }
 {
-    if schema::kind(schema, d) == 20 {
+    if schema::kind(schema, d) == schema::ELEMENT {
         return 1;
     }
     0
@@ -23,10 +23,10 @@ pub fn definitions(schema: &[u32], rows: &mut [u32]) -> u32
     ensures few { λ n. ⌜ n ≤ maxRows ⌝ }
 {
     let all = schema.len() / 3;
-    if 512 < all {
+    if schema::MAX_ROWS < all {
         return 0;
     }
-    if rows.len() < 512 {
+    if rows.len() < schema::MAX_ROWS {
         return 0;
     }
     let mut n: u32 = 0;

@@ -11,25 +11,10 @@ ghost use Rattle.places.specs.Marks.{Marked, Marks, Adds, Fits, ChildThat};
 ghost use Rattle.places.specs.Places.{holdsWhole, emptyFits, PlaceFault};
 ghost use Rattle.misplaced.specs.Misplaced.{Misplaced};
 
-// The kinds of rows that the restrictions name, by their numbers in document 01.
-const EMPTY: u32 = 1;
-
-const NOT_ALLOWED: u32 = 2;
-
-const DATA: u32 = 4;
-
-const ATTRIBUTE: u32 = 7;
-
-const CHOICE: u32 = 10;
-
-const ELEMENT: u32 = 20;
-
-const START: u32 = 21;
-
 fn holds_whole(kind: u32) -> bool
     ensures { λ r. ⌜ r ≡ holdsWhole kind ⌝ }
 {
-    (kind == ELEMENT) | (kind == START)
+    (kind == schema::ELEMENT) | (kind == schema::START)
 }
 
 fn empty_fits(schema: &[u32], p: u32, row: u32) -> bool
@@ -37,7 +22,10 @@ fn empty_fits(schema: &[u32], p: u32, row: u32) -> bool
 {
     let kind = schema::kind(schema, p);
     let first = schema::field_a(schema, p);
-    holds_whole(kind) | (kind == ATTRIBUTE) | (kind == DATA) | ((kind == CHOICE) & (first == row))
+    holds_whole(kind)
+        | (kind == schema::ATTRIBUTE)
+        | (kind == schema::DATA)
+        | ((kind == schema::CHOICE) & (first == row))
 }
 
 // Whether row p has no place for a row among its children.
@@ -45,13 +33,13 @@ fn misplaced(schema: &[u32], p: u32, row: u32) -> bool
     ensures { λ r. ⌜ Decides (Misplaced (now (schema .entry)) p row) r ⌝ }
 {
     let kind = schema::kind(schema, row);
-    if kind == NOT_ALLOWED {
+    if kind == schema::NOT_ALLOWED {
         if holds_whole(schema::kind(schema, p)) {
             return false;
         }
         return true;
     }
-    if kind == EMPTY {
+    if kind == schema::EMPTY {
         if empty_fits(schema, p, row) {
             return false;
         }
@@ -102,7 +90,7 @@ fn first_misplaced(schema: &[u32]) -> Checked
     requires { ⌜ rowsOf (now schema) ≤ maxRows ⌝ }
     ensures { λ r. ⌜ Finds (PlaceFault (now (schema .entry))) r ⌝ }
 {
-    let mut bad = [0u32; 512];
+    let mut bad = [0u32; schema::MAX_ROWS];
     mark_places(schema, &mut bad);
     first_marked(&bad)
 }

@@ -18,10 +18,10 @@ fn infinite(schema: &[u32], class: u32) -> bool
     ensures { λ r. ⌜ Decides (Infinite (now (schema .entry)) class) r ⌝ }
 {
     let kind = schema::kind(schema, class);
-    if kind == 16 {
+    if kind == schema::ANY_NAME {
         return true;
     }
-    if kind == 17 {
+    if kind == schema::NS_NAME {
         return true;
     }
     if infinite_child(schema, class, schema::child_a(schema, class)) {
@@ -67,7 +67,7 @@ fn share_name_once(schema: &[u32], first: u32, second: u32, compared: &mut [u64]
     requires { ⌜ SizeRight (now schema) × Compared (now schema) (now compared) ⌝ }
     ensures { λ r. ⌜ Decides (Shared (now (schema .entry)) first second) r × Compared (now (schema .entry)) (now (compared .exit)) ⌝ }
 {
-    if second > 511 {
+    if schema::MAX_ROWS <= second as usize {
         return share_name(schema, first, second);
     }
     let place = first as usize * 8 + second as usize / 64;
@@ -93,23 +93,23 @@ fn suits(schema: &[u32], wanted: Wanted, x: u32, compared: &mut [u64]) -> bool
 {
     let kind = schema::kind(schema, x);
     match wanted {
-        Wanted::Text => kind == 3,
+        Wanted::Text => kind == schema::TEXT,
         Wanted::AttributeSharing(class) => {
-            if kind == 7 {
+            if kind == schema::ATTRIBUTE {
                 share_name(schema, class, schema::child_a(schema, x))
             } else {
                 false
             }
         }
         Wanted::RefSharing(class) => {
-            if kind == 8 {
+            if kind == schema::REF {
                 share_name_once(schema, class, class_referred(schema, x), compared)
             } else {
                 false
             }
         }
         Wanted::AttributeMeeting(q) => {
-            if kind == 7 {
+            if kind == schema::ATTRIBUTE {
                 let class = schema::child_a(schema, x);
                 occurs(schema, Wanted::AttributeSharing(class), q, compared)
             } else {
@@ -117,7 +117,7 @@ fn suits(schema: &[u32], wanted: Wanted, x: u32, compared: &mut [u64]) -> bool
             }
         }
         Wanted::RefMeeting(q) => {
-            if kind == 8 {
+            if kind == schema::REF {
                 let class = class_referred(schema, x);
                 occurs(schema, Wanted::RefSharing(class), q, compared)
             } else {
@@ -143,10 +143,10 @@ fn occurs(schema: &[u32], wanted: Wanted, p: u32, compared: &mut [u64]) -> bool
         return true;
     }
     let kind = schema::kind(schema, p);
-    if kind < 9 {
+    if kind < schema::ONE_OR_MORE {
         return false;
     }
-    if 12 < kind {
+    if schema::INTERLEAVE < kind {
         return false;
     }
     if occurs_child(schema, wanted, p, schema::child_a(schema, p), compared) {
@@ -188,7 +188,7 @@ fn attribute_fault(schema: &[u32], repeated: &[u32], r: u32) -> bool
             &mut unused,
         );
     }
-    if kind != 7 {
+    if kind != schema::ATTRIBUTE {
         return false;
     }
     if tables::word(repeated, r as usize) == 1 {
@@ -203,7 +203,7 @@ fn interleave_fault(schema: &[u32], r: u32, compared: &mut [u64]) -> bool
     ensures { λ fault. ⌜ Decides (InterleaveFault (now (schema .entry)) r) fault × Compared (now (schema .entry)) (now (compared .exit)) ⌝ }
 {
     let kind = schema::kind(schema, r);
-    if kind != 12 {
+    if kind != schema::INTERLEAVE {
         return false;
     }
     let a = schema::child_a(schema, r);
@@ -242,7 +242,7 @@ pub fn check_attributes(schema: &[u32]) -> Checked
     let Checked::Fine = size else {
         return size;
     };
-    let mut repeated = [0u32; 512];
+    let mut repeated = [0u32; schema::MAX_ROWS];
     places::mark_repeated(schema, &mut repeated);
     first_attribute(schema, &repeated)
 }

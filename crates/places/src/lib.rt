@@ -8,13 +8,6 @@ ghost use Rattle.places.specs.Sources.{IsSource, Passes};
 ghost use Rattle.places.specs.Repeated.{MarksRepeated};
 ghost use Rattle.places.specs.Paths.{isPair};
 
-// The kinds of rows that the restrictions name, by their numbers in document 01.
-const ONE_OR_MORE: u32 = 9;
-
-const GROUP: u32 = 11;
-
-const INTERLEAVE: u32 = 12;
-
 // Which rows mark those below them: the rows of a kind, or the groups and interleaves that a table marks.
 pub enum Source {
     OfKind(u32),
@@ -51,7 +44,7 @@ pub fn mark_children(schema: &[u32], marks: &mut [u32], p: u32, a: bool, b: bool
 pub fn is_pair(kind: u32) -> bool
     ensures { λ r. ⌜ r ≡ isPair kind ⌝ }
 {
-    (kind == GROUP) | (kind == INTERLEAVE)
+    (kind == schema::GROUP) | (kind == schema::INTERLEAVE)
 }
 
 fn is_source(schema: &[u32], source: Source, marks: &[u32], p: u32) -> bool
@@ -121,5 +114,5 @@ pub fn mark_below(schema: &[u32], source: Source, marks: &[u32], below: &mut [u3
 pub fn mark_repeated(schema: &[u32], below: &mut [u32])
     ensures { λ _. ⌜ MarksRepeated (now (schema .entry)) (now (below .entry)) (now (below .exit)) ⌝ }
 {
-    mark_below(schema, Source::OfKind(ONE_OR_MORE), schema, below);
+    mark_below(schema, Source::OfKind(schema::ONE_OR_MORE), schema, below);
 }

@@ -13,27 +13,6 @@ ghost use Rattle.places.specs.Names.{NameFault};
 ghost use Rattle.places.specs.Paths.{notInAttribute, notInExcept, notInStart, PathFault};
 ghost use Rattle.prohibited.specs.Prohibited.{inKinds, MarkedKind, Prohibited, RepeatedPair, earliest};
 
-// The kinds of rows that the restrictions name, by their numbers in document 01.
-const EMPTY: u32 = 1;
-
-const TEXT: u32 = 3;
-
-const DATA: u32 = 4;
-
-const VALUE: u32 = 5;
-
-const ATTRIBUTE: u32 = 7;
-
-const REF: u32 = 8;
-
-const ONE_OR_MORE: u32 = 9;
-
-const ANY_NAME: u32 = 16;
-
-const NS_NAME: u32 = 17;
-
-const START: u32 = 21;
-
 // What may not stand below an anyName, an nsName, an attribute, a group or interleave in a oneOrMore, a data, the start.
 enum Kinds {
     NotInAnyName,
@@ -47,40 +26,40 @@ enum Kinds {
 fn not_in_attribute(kind: u32) -> bool
     ensures { λ r. ⌜ r ≡ notInAttribute kind ⌝ }
 {
-    (kind == REF) | (kind == ATTRIBUTE)
+    (kind == schema::REF) | (kind == schema::ATTRIBUTE)
 }
 
 fn not_in_except(kind: u32) -> bool
     ensures { λ r. ⌜ r ≡ notInExcept kind ⌝ }
 {
-    (kind == ATTRIBUTE)
-        | (kind == REF)
-        | (kind == TEXT)
+    (kind == schema::ATTRIBUTE)
+        | (kind == schema::REF)
+        | (kind == schema::TEXT)
         | places::is_pair(kind)
-        | (kind == ONE_OR_MORE)
-        | (kind == EMPTY)
+        | (kind == schema::ONE_OR_MORE)
+        | (kind == schema::EMPTY)
 }
 
 fn not_in_start(kind: u32) -> bool
     ensures { λ r. ⌜ r ≡ notInStart kind ⌝ }
 {
-    (kind == ATTRIBUTE)
-        | (kind == DATA)
-        | (kind == VALUE)
-        | (kind == TEXT)
+    (kind == schema::ATTRIBUTE)
+        | (kind == schema::DATA)
+        | (kind == schema::VALUE)
+        | (kind == schema::TEXT)
         | places::is_pair(kind)
-        | (kind == ONE_OR_MORE)
-        | (kind == EMPTY)
+        | (kind == schema::ONE_OR_MORE)
+        | (kind == schema::EMPTY)
 }
 
 fn in_kinds(kinds: Kinds, kind: u32) -> bool
     ensures { λ r. ⌜ r ≡ inKinds kinds kind ⌝ }
 {
     match kinds {
-        Kinds::NotInAnyName => kind == ANY_NAME,
-        Kinds::NotInNsName => (kind == ANY_NAME) | (kind == NS_NAME),
+        Kinds::NotInAnyName => kind == schema::ANY_NAME,
+        Kinds::NotInNsName => (kind == schema::ANY_NAME) | (kind == schema::NS_NAME),
         Kinds::NotInAttribute => not_in_attribute(kind),
-        Kinds::NotInPair => kind == ATTRIBUTE,
+        Kinds::NotInPair => kind == schema::ATTRIBUTE,
         Kinds::NotInExcept => not_in_except(kind),
         Kinds::NotInStart => not_in_start(kind),
     }
@@ -121,7 +100,7 @@ fn first_below(schema: &[u32], above: u32, kinds: Kinds) -> Checked
     requires { ⌜ rowsOf (now schema) ≤ maxRows ⌝ }
     ensures { λ r. ⌜ Finds (Prohibited (now (schema .entry)) (HasKind (now (schema .entry)) above) kinds) r ⌝ }
 {
-    let mut below = [0u32; 512];
+    let mut below = [0u32; schema::MAX_ROWS];
     places::mark_below(schema, Source::OfKind(above), schema, &mut below);
     first_marked(schema, &below, kinds)
 }
@@ -131,9 +110,14 @@ fn first_repeated(schema: &[u32]) -> Checked
     requires { ⌜ rowsOf (now schema) ≤ maxRows ⌝ }
     ensures { λ r. ⌜ Finds (Prohibited (now (schema .entry)) (RepeatedPair (now (schema .entry))) Kinds.NotInPair) r ⌝ }
 {
-    let mut repeated = [0u32; 512];
-    places::mark_below(schema, Source::OfKind(ONE_OR_MORE), schema, &mut repeated);
-    let mut below = [0u32; 512];
+    let mut repeated = [0u32; schema::MAX_ROWS];
+    places::mark_below(
+        schema,
+        Source::OfKind(schema::ONE_OR_MORE),
+        schema,
+        &mut repeated,
+    );
+    let mut below = [0u32; schema::MAX_ROWS];
     places::mark_below(schema, Source::MarkedPair, &repeated, &mut below);
     first_marked(schema, &below, Kinds::NotInPair)
 }
@@ -143,10 +127,10 @@ fn first_prohibited(schema: &[u32]) -> Checked
     requires { ⌜ rowsOf (now schema) ≤ maxRows ⌝ }
     ensures { λ r. ⌜ Finds (PathFault (now (schema .entry))) r ⌝ }
 {
-    let attribute = first_below(schema, ATTRIBUTE, Kinds::NotInAttribute);
+    let attribute = first_below(schema, schema::ATTRIBUTE, Kinds::NotInAttribute);
     let repeated = first_repeated(schema);
-    let except = first_below(schema, DATA, Kinds::NotInExcept);
-    let start = first_below(schema, START, Kinds::NotInStart);
+    let except = first_below(schema, schema::DATA, Kinds::NotInExcept);
+    let start = first_below(schema, schema::START, Kinds::NotInStart);
     earlier(earlier(attribute, repeated), earlier(except, start))
 }
 
@@ -155,8 +139,8 @@ fn first_name(schema: &[u32]) -> Checked
     requires { ⌜ rowsOf (now schema) ≤ maxRows ⌝ }
     ensures { λ r. ⌜ Finds (NameFault (now (schema .entry))) r ⌝ }
 {
-    let any = first_below(schema, ANY_NAME, Kinds::NotInAnyName);
-    let ns = first_below(schema, NS_NAME, Kinds::NotInNsName);
+    let any = first_below(schema, schema::ANY_NAME, Kinds::NotInAnyName);
+    let ns = first_below(schema, schema::NS_NAME, Kinds::NotInNsName);
     earlier(any, ns)
 }
 

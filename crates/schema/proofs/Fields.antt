@@ -8,7 +8,7 @@ use native.Mathlib.Omega.{arith}
 use native.Mathlib.Decide.{ℕ-discrete}
 use lib.Dec.{ltb, leb, eqb}
 use borrow.Author.Tests.{eqb-true, leb-true}
-use Rattle.schema.specs.Kinds.{none}
+use Rattle.schema.specs.Kinds as kind
 use Rattle.schema.specs.Rows.{rowsOf, kindOf, aOf, bOf, shapeOf, sortOf, isPattern, names, namesA, namesB}
 use Rattle.schema.specs.RowRule.{fieldRight, sortRight, usesBelow, rowRight, RowsRight, bad-row}
 use Rattle.schema.specs.declared.Shape.{Shape}
@@ -47,26 +47,26 @@ module _ (strings : ℕ) (s : List ℕ) (right : RowsRight strings s) (r : ℕ) 
       let n : names s r APattern (bOf s r) ≡ true = rw (e, f) at (both-fields .1) in
       (rw (e, f) n, and-both (ltb (bOf s r) r) (isPattern (sortOf s (bOf s r))) n .1)
 
-  pub pattern-or-none : (k : ℕ) → kindOf s r ≡ k → shapeOf k .b ≡ PatternOrNone → (bOf s r ≡ none) ⊎ ((namesB s r ≡ true) × (isPattern (sortOf s (bOf s r)) ≡ true))
-  pattern-or-none k e f = go (or-either (eqb (bOf s r) none) (names s r PatternOrNone (bOf s r)) (rw (e, f) at (both-fields .1)))
+  pub pattern-or-none : (k : ℕ) → kindOf s r ≡ k → shapeOf k .b ≡ PatternOrNone → (bOf s r ≡ kind.none) ⊎ ((namesB s r ≡ true) × (isPattern (sortOf s (bOf s r)) ≡ true))
+  pattern-or-none k e f = go (or-either (eqb (bOf s r) kind.none) (names s r PatternOrNone (bOf s r)) (rw (e, f) at (both-fields .1)))
     where
-      go : (eqb (bOf s r) none ≡ true) ⊎ (names s r PatternOrNone (bOf s r) ≡ true) → (bOf s r ≡ none) ⊎ ((namesB s r ≡ true) × (isPattern (sortOf s (bOf s r)) ≡ true))
+      go : (eqb (bOf s r) kind.none ≡ true) ⊎ (names s r PatternOrNone (bOf s r) ≡ true) → (bOf s r ≡ kind.none) ⊎ ((namesB s r ≡ true) × (isPattern (sortOf s (bOf s r)) ≡ true))
       go (inl x) = inl (eqb-true _ _ x)
       go (inr n) = inr (rw (e, f) n, and-both (ltb (bOf s r) r) (isPattern (sortOf s (bOf s r))) n .1)
 
 -- the kinds of patterns
 pub data PatternKind (k : ℕ) : Type 0 where
-  is-empty : k ≡ 1 → PatternKind k
-  is-notAllowed : k ≡ 2 → PatternKind k
-  is-text : k ≡ 3 → PatternKind k
-  is-data : k ≡ 4 → PatternKind k
-  is-value : k ≡ 5 → PatternKind k
-  is-attribute : k ≡ 7 → PatternKind k
-  is-ref : k ≡ 8 → PatternKind k
-  is-oneOrMore : k ≡ 9 → PatternKind k
-  is-choice : k ≡ 10 → PatternKind k
-  is-group : k ≡ 11 → PatternKind k
-  is-interleave : k ≡ 12 → PatternKind k
+  is-empty : k ≡ kind.empty → PatternKind k
+  is-notAllowed : k ≡ kind.notAllowed → PatternKind k
+  is-text : k ≡ kind.text → PatternKind k
+  is-data : k ≡ kind.«data» → PatternKind k
+  is-value : k ≡ kind.value → PatternKind k
+  is-attribute : k ≡ kind.attribute → PatternKind k
+  is-ref : k ≡ kind.ref → PatternKind k
+  is-oneOrMore : k ≡ kind.oneOrMore → PatternKind k
+  is-choice : k ≡ kind.choice → PatternKind k
+  is-group : k ≡ kind.group → PatternKind k
+  is-interleave : k ≡ kind.interleave → PatternKind k
 
 pub either-shape : (P : Shape → Type 0) (b : Bool) {x y : Shape} → (b ≡ true → P x) → (b ≡ false → P y) → P (cond b x y)
 either-shape P true f g = f refl
@@ -75,19 +75,19 @@ either-shape P false f g = g refl
 pub pattern-kind : (k : ℕ) → isPattern (shapeOf k .sort) ≡ true → PatternKind k
 unfolding shapeOf
 pattern-kind k =
-    either-shape P (leb 1 k && leb k 3) (λ e p. low (and-both (leb 1 k) (leb k 3) e)) (λ e₁.
-    either-shape P (leb 10 k && leb k 12) (λ e p. high (and-both (leb 10 k) (leb k 12) e)) (λ e₂.
-    either-shape P (eqb k 4) (λ e p. is-data (eqb-true _ _ e)) (λ e₃.
-    either-shape P (eqb k 5) (λ e p. is-value (eqb-true _ _ e)) (λ e₄.
-    either-shape P (eqb k 7) (λ e p. is-attribute (eqb-true _ _ e)) (λ e₅.
-    either-shape P (eqb k 8) (λ e p. is-ref (eqb-true _ _ e)) (λ e₆.
-    either-shape P (eqb k 9) (λ e p. is-oneOrMore (eqb-true _ _ e)) (λ e₇.
-    either-shape P (eqb k 16) (λ e. never) (λ e₈.
-    either-shape P (eqb k 17) (λ e. never) (λ e₉.
-    either-shape P (eqb k 18) (λ e. never) (λ e₁₀.
-    either-shape P (eqb k 19) (λ e. never) (λ e₁₁.
-    either-shape P (eqb k 20) (λ e. never) (λ e₁₂.
-    either-shape P (eqb k 21) (λ e. never) (λ e₁₃. never)))))))))))))
+    either-shape P (leb kind.empty k && leb k kind.text) (λ e p. low (and-both (leb kind.empty k) (leb k kind.text) e)) (λ e₁.
+    either-shape P (eqb k kind.«data») (λ e p. is-data (eqb-true _ _ e)) (λ e₂.
+    either-shape P (eqb k kind.value) (λ e p. is-value (eqb-true _ _ e)) (λ e₃.
+    either-shape P (eqb k kind.attribute) (λ e p. is-attribute (eqb-true _ _ e)) (λ e₄.
+    either-shape P (eqb k kind.ref) (λ e p. is-ref (eqb-true _ _ e)) (λ e₅.
+    either-shape P (eqb k kind.oneOrMore) (λ e p. is-oneOrMore (eqb-true _ _ e)) (λ e₆.
+    either-shape P (leb kind.choice k && leb k kind.interleave) (λ e p. high (and-both (leb kind.choice k) (leb k kind.interleave) e)) (λ e₇.
+    either-shape P (eqb k kind.anyName) (λ e. never) (λ e₈.
+    either-shape P (eqb k kind.nsName) (λ e. never) (λ e₉.
+    either-shape P (eqb k kind.name) (λ e. never) (λ e₁₀.
+    either-shape P (eqb k kind.nameChoice) (λ e. never) (λ e₁₁.
+    either-shape P (eqb k kind.element) (λ e. never) (λ e₁₂.
+    either-shape P (eqb k kind.start) (λ e. never) (λ e₁₃. never)))))))))))))
   where
     P : Shape → Type 0
     P shape = isPattern (shape .sort) ≡ true → PatternKind k
@@ -95,18 +95,18 @@ pattern-kind k =
     never : false ≡ true → PatternKind k
     never e = absurd (false≢true e)
 
-    low : (leb 1 k ≡ true) × (leb k 3 ≡ true) → PatternKind k
-    low b = at (ℕ-discrete k 1) (ℕ-discrete k 2)
+    low : (leb kind.empty k ≡ true) × (leb k kind.text ≡ true) → PatternKind k
+    low b = at (ℕ-discrete k kind.empty) (ℕ-discrete k kind.notAllowed)
       where
-        at : Dec (k ≡ 1) → Dec (k ≡ 2) → PatternKind k
+        at : Dec (k ≡ kind.empty) → Dec (k ≡ kind.notAllowed) → PatternKind k
         at (yes e) d = is-empty e
         at (no f) (yes e) = is-notAllowed e
-        at (no f) (no g) = is-text (omega (arith, leb-true 1 k (b .0), leb-true k 3 (b .1)))
+        at (no f) (no g) = is-text (omega (arith, leb-true kind.empty k (b .0), leb-true k kind.text (b .1)))
 
-    high : (leb 10 k ≡ true) × (leb k 12 ≡ true) → PatternKind k
-    high b = at (ℕ-discrete k 10) (ℕ-discrete k 11)
+    high : (leb kind.choice k ≡ true) × (leb k kind.interleave ≡ true) → PatternKind k
+    high b = at (ℕ-discrete k kind.choice) (ℕ-discrete k kind.group)
       where
-        at : Dec (k ≡ 10) → Dec (k ≡ 11) → PatternKind k
+        at : Dec (k ≡ kind.choice) → Dec (k ≡ kind.group) → PatternKind k
         at (yes e) d = is-choice e
         at (no f) (yes e) = is-group e
-        at (no f) (no g) = is-interleave (omega (arith, leb-true 10 k (b .0), leb-true k 12 (b .1)))
+        at (no f) (no g) = is-interleave (omega (arith, leb-true kind.choice k (b .0), leb-true k kind.interleave (b .1)))

@@ -6,9 +6,10 @@ use Prim.Native.Nat.{ℕ, _<_, _≤_}
 use native.Mathlib.Omega.{arith}
 use lib.Dec.{leb, eqb}
 use borrow.Author.Tests.{le-leb, lt-leb, ne-eqb}
+use Rattle.schema.specs.Kinds as kind
 use Rattle.schema.specs.Rows.{shape, shapeOf}
-use Rattle.schema.specs.declared.Sort.the-variants.{Bad}
-use Rattle.schema.specs.declared.Field.the-variants.{Unused}
+use Rattle.schema.specs.declared.Sort.the-variants.{Pattern, Bad}
+use Rattle.schema.specs.declared.Field.the-variants.{Unused, APattern}
 
 pub inside : (a b k : ℕ) → a ≤ k → k ≤ b → (leb a k && leb k b) ≡ true
 inside a b k l h = rw (le-leb a k l, le-leb k b h)
@@ -17,30 +18,46 @@ pub outside : (a b k : ℕ) → (k < a) ⊎ (b < k) → (leb a k && leb k b) ≡
 outside a b k (inl l) = rw (lt-leb a k l)
 outside a b k (inr l) = rw (lt-leb k b l) (and-false (leb a k))
 
-pub past-9 : (k : ℕ) → 7 ≤ k → (k ≡ 7 → ⊥) → (k ≡ 8 → ⊥) → (k ≡ 9 → ⊥) → 10 ≤ k
-past-9 k l p q r = omega arith
+pub past-oneOrMore : (k : ℕ) → kind.attribute ≤ k → k ≢ kind.attribute → k ≢ kind.ref → k ≢ kind.oneOrMore → kind.choice ≤ k
+past-oneOrMore k l p q r = omega arith
+
+-- choice, group and interleave
+pub shape-pair : (k : ℕ) → kind.choice ≤ k → k ≤ kind.interleave → shapeOf k ≡ shape Pattern APattern APattern
+unfolding shapeOf
+shape-pair k l h =
+    rw (
+      outside kind.empty kind.text k (inr (omega arith)),
+      ne-eqb k kind.«data» (λ e. omega arith),
+      ne-eqb k kind.value (λ e. omega arith),
+      ne-eqb k kind.attribute (λ e. omega arith),
+      ne-eqb k kind.ref (λ e. omega arith),
+      ne-eqb k kind.oneOrMore (λ e. omega arith),
+      inside kind.choice kind.interleave k l h,
+    )
 
 -- none of the single kinds, as the rest of a match says it
 abbrev pub NotSingle : ℕ → Type 0
-NotSingle k = ((((((((((Unit {0} × (k ≢ 4)) × (k ≢ 5)) × (k ≢ 7)) × (k ≢ 8)) × (k ≢ 9)) × (k ≢ 16)) × (k ≢ 17)) × (k ≢ 18)) × (k ≢ 19)) × (k ≢ 20)) × (k ≢ 21)
+NotSingle k =
+    ((((((((((Unit {0} × (k ≢ kind.«data»)) × (k ≢ kind.value)) × (k ≢ kind.attribute)) × (k ≢ kind.ref)) × (k ≢ kind.oneOrMore)) × (k ≢ kind.anyName)) × (k ≢ kind.nsName))
+    × (k ≢ kind.name)) × (k ≢ kind.nameChoice)) × (k ≢ kind.element)) × (k ≢ kind.start)
 
 -- and in none of the ranges
-pub shape-bad : (k : ℕ) → (k < 1) ⊎ (3 < k) → (k < 10) ⊎ (12 < k) → NotSingle k → shapeOf k ≡ shape Bad Unused Unused
+pub shape-bad : (k : ℕ) → (k < kind.empty) ⊎ (kind.text < k) → (k < kind.choice) ⊎ (kind.interleave < k) → NotSingle k → shapeOf k ≡ shape Bad Unused Unused
 unfolding shapeOf
 shape-bad k p q o =
     let o₁ = o .0 .0 .0 .0 .0 .0 in
     rw (
-      outside 1 3 k p,
-      outside 10 12 k q,
-      ne-eqb k 4 (o₁ .0 .0 .0 .0 .1),
-      ne-eqb k 5 (o₁ .0 .0 .0 .1),
-      ne-eqb k 7 (o₁ .0 .0 .1),
-      ne-eqb k 8 (o₁ .0 .1),
-      ne-eqb k 9 (o₁ .1),
-      ne-eqb k 16 (o .0 .0 .0 .0 .0 .1),
-      ne-eqb k 17 (o .0 .0 .0 .0 .1),
-      ne-eqb k 18 (o .0 .0 .0 .1),
-      ne-eqb k 19 (o .0 .0 .1),
-      ne-eqb k 20 (o .0 .1),
-      ne-eqb k 21 (o .1),
+      outside kind.empty kind.text k p,
+      ne-eqb k kind.«data» (o₁ .0 .0 .0 .0 .1),
+      ne-eqb k kind.value (o₁ .0 .0 .0 .1),
+      ne-eqb k kind.attribute (o₁ .0 .0 .1),
+      ne-eqb k kind.ref (o₁ .0 .1),
+      ne-eqb k kind.oneOrMore (o₁ .1),
+      outside kind.choice kind.interleave k q,
+      ne-eqb k kind.anyName (o .0 .0 .0 .0 .0 .1),
+      ne-eqb k kind.nsName (o .0 .0 .0 .0 .1),
+      ne-eqb k kind.name (o .0 .0 .0 .1),
+      ne-eqb k kind.nameChoice (o .0 .0 .1),
+      ne-eqb k kind.element (o .0 .1),
+      ne-eqb k kind.start (o .1),
     )

@@ -25,19 +25,19 @@ data KindOf (k : ℕ) : Sort → Type 0 where
 kind-of : (k : ℕ) → KindOf k (shapeOf k .sort)
 unfolding shapeOf
 kind-of k =
-    either-shape P (leb 1 k && leb k 3) (λ e. of-pattern) (λ e₁.
-    either-shape P (leb 10 k && leb k 12) (λ e. of-pattern) (λ e₂.
-    either-shape P (eqb k 4) (λ e. of-pattern) (λ e₃.
-    either-shape P (eqb k 5) (λ e. of-pattern) (λ e₄.
-    either-shape P (eqb k 7) (λ e. of-pattern) (λ e₅.
-    either-shape P (eqb k 8) (λ e. of-pattern) (λ e₆.
-    either-shape P (eqb k 9) (λ e. of-pattern) (λ e₇.
-    either-shape P (eqb k 16) (λ e. of-class) (λ e₈.
-    either-shape P (eqb k 17) (λ e. of-class) (λ e₉.
-    either-shape P (eqb k 18) (λ e. of-class) (λ e₁₀.
-    either-shape P (eqb k 19) (λ e. of-class) (λ e₁₁.
-    either-shape P (eqb k 20) (λ e. of-element (eqb-true _ _ e)) (λ e₁₂.
-    either-shape P (eqb k 21) (λ e. of-start (eqb-true _ _ e)) (λ e₁₃. of-bad)))))))))))))
+    either-shape P (leb kind.empty k && leb k kind.text) (λ e. of-pattern) (λ e₁.
+    either-shape P (eqb k kind.«data») (λ e. of-pattern) (λ e₂.
+    either-shape P (eqb k kind.value) (λ e. of-pattern) (λ e₃.
+    either-shape P (eqb k kind.attribute) (λ e. of-pattern) (λ e₄.
+    either-shape P (eqb k kind.ref) (λ e. of-pattern) (λ e₅.
+    either-shape P (eqb k kind.oneOrMore) (λ e. of-pattern) (λ e₆.
+    either-shape P (leb kind.choice k && leb k kind.interleave) (λ e. of-pattern) (λ e₇.
+    either-shape P (eqb k kind.anyName) (λ e. of-class) (λ e₈.
+    either-shape P (eqb k kind.nsName) (λ e. of-class) (λ e₉.
+    either-shape P (eqb k kind.name) (λ e. of-class) (λ e₁₀.
+    either-shape P (eqb k kind.nameChoice) (λ e. of-class) (λ e₁₁.
+    either-shape P (eqb k kind.element) (λ e. of-element (eqb-true _ _ e)) (λ e₁₂.
+    either-shape P (eqb k kind.start) (λ e. of-start (eqb-true _ _ e)) (λ e₁₃. of-bad)))))))))))))
   where
     P : Shape → Type 0
     P shape = KindOf k (shape .sort)

@@ -4,6 +4,7 @@ use mathlib.Core.Path.{_≡_}
 use mathlib.Core.Bool.{Bool, true, _&&_}
 use mathlib.Core.List.{List}
 use lib.Dec.{leb}
+use Rattle.schema.specs.Kinds as kind
 use Rattle.schema.specs.Rows.{kindOf, aOf, bOf, namesA, namesB}
 
 -- r is a child of p
@@ -16,9 +17,9 @@ pub data Below (s : List ℕ) (r : ℕ) : ℕ → Type 0 where
   child : {p : ℕ} → Child s p r → Below s r p
   deeper : {p q : ℕ} → Child s p q → Below s r q → Below s r p
 
--- choice, group, interleave and oneOrMore
+-- oneOrMore, choice, group and interleave
 abbrev pub connective : ℕ → Bool
-connective k = leb 9 k && leb k 12
+connective k = leb kind.oneOrMore k && leb k kind.interleave
 
 -- r occurs in p: it is p, or is reached from p through choice, group, interleave and oneOrMore alone
 pub data Occurs (s : List ℕ) (r : ℕ) : ℕ → Type 0 where

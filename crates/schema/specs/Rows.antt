@@ -4,7 +4,7 @@ use mathlib.Core.Bool.{Bool, true, false, not, cond, _&&_, _||_}
 use mathlib.Core.List.{List}
 use lib.ListN.{length, getD}
 use lib.Dec.{ltb, leb, eqb}
-use Rattle.schema.specs.Kinds.{none}
+use Rattle.schema.specs.Kinds as kind
 use Rattle.schema.specs.declared.Sort.{Sort}
 use Rattle.schema.specs.declared.Sort.the-variants.{Pattern, NameClass, Element, Start, Bad}
 use Rattle.schema.specs.declared.Field.{Field}
@@ -30,19 +30,19 @@ shape sort a b = record { sort = sort; a = a; b = b }
 -- the table of kinds of document 01, "Schema rows"
 unfoldable pub shapeOf : ℕ → Shape
 shapeOf k =
-    cond (leb 1 k && leb k 3) (shape Pattern Unused Unused)
-    (cond (leb 10 k && leb k 12) (shape Pattern APattern APattern)
-    (cond (eqb k 4) (shape Pattern Datatype PatternOrNone)
-    (cond (eqb k 5) (shape Pattern Datatype Text)
-    (cond (eqb k 7) (shape Pattern AClass APattern)
-    (cond (eqb k 8) (shape Pattern Definition Unused)
-    (cond (eqb k 9) (shape Pattern APattern Unused)
-    (cond (eqb k 16) (shape NameClass ClassOrNone Unused)
-    (cond (eqb k 17) (shape NameClass Text ClassOrNone)
-    (cond (eqb k 18) (shape NameClass Text Local)
-    (cond (eqb k 19) (shape NameClass AClass AClass)
-    (cond (eqb k 20) (shape Element AClass APattern)
-    (cond (eqb k 21) (shape Start APattern Unused)
+    cond (leb kind.empty k && leb k kind.text) (shape Pattern Unused Unused)
+    (cond (eqb k kind.«data») (shape Pattern Datatype PatternOrNone)
+    (cond (eqb k kind.value) (shape Pattern Datatype Text)
+    (cond (eqb k kind.attribute) (shape Pattern AClass APattern)
+    (cond (eqb k kind.ref) (shape Pattern Definition Unused)
+    (cond (eqb k kind.oneOrMore) (shape Pattern APattern Unused)
+    (cond (leb kind.choice k && leb k kind.interleave) (shape Pattern APattern APattern)
+    (cond (eqb k kind.anyName) (shape NameClass ClassOrNone Unused)
+    (cond (eqb k kind.nsName) (shape NameClass Text ClassOrNone)
+    (cond (eqb k kind.name) (shape NameClass Text Local)
+    (cond (eqb k kind.nameChoice) (shape NameClass AClass AClass)
+    (cond (eqb k kind.element) (shape Element AClass APattern)
+    (cond (eqb k kind.start) (shape Start APattern Unused)
     (shape Bad Unused Unused)))))))))))))
 
 abbrev pub isPattern : Sort → Bool
@@ -89,7 +89,7 @@ namesB s p = names s p (shapeOf (kindOf s p) .b) (bOf s p)
 
 -- the child of a row through field a, and through field b; none where the field is bad or holds no child
 abbrev pub childA : List ℕ → ℕ → ℕ
-childA s p = cond (namesA s p) (aOf s p) none
+childA s p = cond (namesA s p) (aOf s p) kind.none
 
 abbrev pub childB : List ℕ → ℕ → ℕ
-childB s p = cond (namesB s p) (bOf s p) none
+childB s p = cond (namesB s p) (bOf s p) kind.none

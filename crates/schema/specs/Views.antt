@@ -3,7 +3,7 @@ use Prim.Native.Nat.{ℕ}
 use mathlib.Core.Bool.{Bool, true, false, cond}
 use mathlib.Core.List.{List}
 use lib.Dec.{eqb}
-use Rattle.schema.specs.Kinds.{none}
+use Rattle.schema.specs.Kinds as kind
 use Rattle.schema.specs.Rows.{kindOf, aOf, bOf}
 
 pub data Pattern : Type 0 where
@@ -28,24 +28,24 @@ pub data NameClass : Type 0 where
 
 unfoldable pub patternBy : ℕ → ℕ → ℕ → Pattern
 patternBy k a b =
-    cond (eqb k 1) empty
-    (cond (eqb k 2) notAllowed
-    (cond (eqb k 3) text
-    (cond (eqb k 4) (cond (eqb b none) (dataAll a) (dataExcept a b))
-    (cond (eqb k 5) (value a b)
-    (cond (eqb k 7) (attribute a b)
-    (cond (eqb k 8) (ref a)
-    (cond (eqb k 9) (oneOrMore a)
-    (cond (eqb k 10) (choice a b)
-    (cond (eqb k 11) (group a b)
-    (cond (eqb k 12) (interleave a b) noPattern))))))))))
+    cond (eqb k kind.empty) empty
+    (cond (eqb k kind.notAllowed) notAllowed
+    (cond (eqb k kind.text) text
+    (cond (eqb k kind.«data») (cond (eqb b kind.none) (dataAll a) (dataExcept a b))
+    (cond (eqb k kind.value) (value a b)
+    (cond (eqb k kind.attribute) (attribute a b)
+    (cond (eqb k kind.ref) (ref a)
+    (cond (eqb k kind.oneOrMore) (oneOrMore a)
+    (cond (eqb k kind.choice) (choice a b)
+    (cond (eqb k kind.group) (group a b)
+    (cond (eqb k kind.interleave) (interleave a b) noPattern))))))))))
 
 unfoldable pub classBy : ℕ → ℕ → ℕ → NameClass
 classBy k a b =
-    cond (eqb k 16) (cond (eqb a none) anyName (anyNameExcept a))
-    (cond (eqb k 17) (cond (eqb b none) (nsName a) (nsNameExcept a b))
-    (cond (eqb k 18) (name a b)
-    (cond (eqb k 19) (nameChoice a b) noClass)))
+    cond (eqb k kind.anyName) (cond (eqb a kind.none) anyName (anyNameExcept a))
+    (cond (eqb k kind.nsName) (cond (eqb b kind.none) (nsName a) (nsNameExcept a b))
+    (cond (eqb k kind.name) (name a b)
+    (cond (eqb k kind.nameChoice) (nameChoice a b) noClass)))
 
 abbrev pub patternOf : List ℕ → ℕ → Pattern
 patternOf s r = patternBy (kindOf s r) (aOf s r) (bOf s r)

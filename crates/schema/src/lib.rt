@@ -8,6 +8,41 @@ pub const MAX_ROWS: usize = 512;
 // Document 01's `-`: no row.
 pub const NONE: u32 = 4294967295;
 
+// The kinds of schema rows, by their numbers in document 01.
+pub const EMPTY: u32 = 1;
+
+pub const NOT_ALLOWED: u32 = 2;
+
+pub const TEXT: u32 = 3;
+
+pub const DATA: u32 = 4;
+
+pub const VALUE: u32 = 5;
+
+pub const ATTRIBUTE: u32 = 7;
+
+pub const REF: u32 = 8;
+
+pub const ONE_OR_MORE: u32 = 9;
+
+pub const CHOICE: u32 = 10;
+
+pub const GROUP: u32 = 11;
+
+pub const INTERLEAVE: u32 = 12;
+
+pub const ANY_NAME: u32 = 16;
+
+pub const NS_NAME: u32 = 17;
+
+pub const NAME: u32 = 18;
+
+pub const NAME_CHOICE: u32 = 19;
+
+pub const ELEMENT: u32 = 20;
+
+pub const START: u32 = 21;
+
 // What a row is.
 pub enum Sort {
     Pattern,
@@ -66,19 +101,19 @@ pub fn shape_of(kind: u32) -> Shape
     ensures { λ r. ⌜ r ≡ shapeOf kind ⌝ }
 {
     match kind {
-        1..=3 => made(Sort::Pattern, Field::Unused, Field::Unused),
-        10..=12 => made(Sort::Pattern, Field::APattern, Field::APattern),
-        4 => made(Sort::Pattern, Field::Datatype, Field::PatternOrNone),
-        5 => made(Sort::Pattern, Field::Datatype, Field::Text),
-        7 => made(Sort::Pattern, Field::AClass, Field::APattern),
-        8 => made(Sort::Pattern, Field::Definition, Field::Unused),
-        9 => made(Sort::Pattern, Field::APattern, Field::Unused),
-        16 => made(Sort::NameClass, Field::ClassOrNone, Field::Unused),
-        17 => made(Sort::NameClass, Field::Text, Field::ClassOrNone),
-        18 => made(Sort::NameClass, Field::Text, Field::Local),
-        19 => made(Sort::NameClass, Field::AClass, Field::AClass),
-        20 => made(Sort::Element, Field::AClass, Field::APattern),
-        21 => made(Sort::Start, Field::APattern, Field::Unused),
+        EMPTY..=TEXT => made(Sort::Pattern, Field::Unused, Field::Unused),
+        DATA => made(Sort::Pattern, Field::Datatype, Field::PatternOrNone),
+        VALUE => made(Sort::Pattern, Field::Datatype, Field::Text),
+        ATTRIBUTE => made(Sort::Pattern, Field::AClass, Field::APattern),
+        REF => made(Sort::Pattern, Field::Definition, Field::Unused),
+        ONE_OR_MORE => made(Sort::Pattern, Field::APattern, Field::Unused),
+        CHOICE..=INTERLEAVE => made(Sort::Pattern, Field::APattern, Field::APattern),
+        ANY_NAME => made(Sort::NameClass, Field::ClassOrNone, Field::Unused),
+        NS_NAME => made(Sort::NameClass, Field::Text, Field::ClassOrNone),
+        NAME => made(Sort::NameClass, Field::Text, Field::Local),
+        NAME_CHOICE => made(Sort::NameClass, Field::AClass, Field::AClass),
+        ELEMENT => made(Sort::Element, Field::AClass, Field::APattern),
+        START => made(Sort::Start, Field::APattern, Field::Unused),
         _ => made(Sort::Bad, Field::Unused, Field::Unused),
     }
 }

@@ -76,16 +76,16 @@ fn row_type(kind: u32, b: u32, c: u32, d: u32) -> u32
     ensures { λ r. ⌜ r ≡ typeBy kind b c d ⌝ }
 {
     match kind {
-        1 => 0,
-        3 => 1,
-        4 => type_if(none_or_typed(b, d), 2),
-        5 => 2,
-        7 => type_if(d < 3, 0),
-        8 => 1,
-        9 => type_if(fits_together(c, c), c),
-        10 => type_if(both_typed(c, d), larger(c, d)),
-        11 => type_if(fits_together(c, d), larger(c, d)),
-        12 => type_if(fits_together(c, d), larger(c, d)),
+        schema::EMPTY => 0,
+        schema::TEXT => 1,
+        schema::DATA => type_if(none_or_typed(b, d), 2),
+        schema::VALUE => 2,
+        schema::ATTRIBUTE => type_if(d < 3, 0),
+        schema::REF => 1,
+        schema::ONE_OR_MORE => type_if(fits_together(c, c), c),
+        schema::CHOICE => type_if(both_typed(c, d), larger(c, d)),
+        schema::GROUP => type_if(fits_together(c, d), larger(c, d)),
+        schema::INTERLEAVE => type_if(fits_together(c, d), larger(c, d)),
         _ => 3,
     }
 }
@@ -95,9 +95,9 @@ fn row_clashes(kind: u32, c: u32, d: u32) -> bool
     ensures { λ r. ⌜ r ≡ clashBy kind c d ⌝ }
 {
     match kind {
-        9 => clash_together(c, c),
-        11 => clash_together(c, d),
-        12 => clash_together(c, d),
+        schema::ONE_OR_MORE => clash_together(c, c),
+        schema::GROUP => clash_together(c, d),
+        schema::INTERLEAVE => clash_together(c, d),
         _ => false,
     }
 }
@@ -150,6 +150,6 @@ pub fn check_content(schema: &[u32]) -> Checked
     let Checked::Fine = size else {
         return size;
     };
-    let mut types = [0u32; 512];
+    let mut types = [0u32; schema::MAX_ROWS];
     first_clash(schema, &mut types)
 }

@@ -6,7 +6,8 @@ use native.Mathlib.Nat.{le-trans, le-of-suc-le-suc}
 use native.Mathlib.Omega.{arith}
 use lib.Dec.{lit≤}
 use borrow.Author.Needs.{needs}
-use Rattle.schema.proofs.Shapes.{past-9, shape-bad, inside, outside}
+use Rattle.schema.proofs.Shapes.{inside, past-oneOrMore, shape-pair, shape-bad}
+use Rattle.schema.specs.Kinds as kind
 use Rattle.schema.specs.Rows.{shapeOf}
 use Rattle.schema.proofs.shape_of.Statement.{statement}
 use Rattle.schema.proofs.shape_of.Tie as tie
@@ -99,20 +100,19 @@ returns-11 c = c .made11 .ensures ∙ rw (c .before .match .keys11)
 
 returns-12 : tie.Need-returns-12
 unfolding shapeOf
-returns-12 c = c .made12 .ensures ∙ rw (inside 1 3 (c .before .before .before .before .args .kind) (omega arith) (omega arith))
+returns-12 c = c .made12 .ensures ∙ rw (inside kind.empty kind.text (c .before .before .before .before .args .kind) (omega arith) (omega arith))
 
 returns-13 : tie.Need-returns-13
-unfolding shapeOf
 returns-13 c =
     let k = c .before .before .before .before .before .before .args .kind in
     let m = c .before .before .before .before .before .match .rest .0 .0 .0 .0 .0 .0 in
-    let low : 10 ≤ k = past-9 k (c .before .before .if3 .left) (m .0 .0 .1) (m .0 .1) (m .1) in
-    c .made13 .ensures ∙ rw (outside 1 3 k (inr (le-trans (lit≤ tt) low)), inside 10 12 k low (le-of-suc-le-suc (c .before .if4 .taken)))
+    let low : kind.choice ≤ k = past-oneOrMore k (c .before .before .if3 .left) (m .0 .0 .1) (m .0 .1) (m .1) in
+    c .made13 .ensures ∙ sym (shape-pair k low (le-of-suc-le-suc (c .before .if4 .taken)))
 
 returns-14 : tie.Need-returns-14
 returns-14 c =
     let k = c .before .before .before .args .kind in
-    let bad : (k < 1) ⊎ (3 < k) → (k < 10) ⊎ (12 < k) → c .made14 .result ≡ shapeOf k = λ p q. c .made14 .ensures ∙ sym (shape-bad k p q (c .before .before .match .rest)) in
+    let bad : (k < kind.empty) ⊎ (kind.text < k) → (k < kind.choice) ⊎ (kind.interleave < k) → c .made14 .result ≡ shapeOf k = λ p q. c .made14 .ensures ∙ sym (shape-bad k p q (c .before .before .match .rest)) in
     ⊎-elim (λ w. bad (inl (w .taken)) (inl (le-trans (w .taken) (lit≤ tt))))
     (⊎-elim (λ w. bad (inr (w .1 .left)) (inl (le-trans (w .2 .taken) (lit≤ tt)))) (λ w. bad (inr (w .1 .left)) (inr (w .3 .left))))
     (c .before .if1 .came)
