@@ -72,12 +72,12 @@ fn nothing_at(schema: &[u32], nothing: &[u8], p: u32) -> u8
     let a = nothing_in(nothing, schema::field_a(schema, p));
     let b = nothing_in(nothing, schema::field_b(schema, p));
     match kind {
-        1 => 1,
-        3 => 1,
-        9 => a,
-        10 => either(a, b),
-        11 => both(a, b),
-        12 => both(a, b),
+        schema::EMPTY => 1,
+        schema::TEXT => 1,
+        schema::ONE_OR_MORE => a,
+        schema::CHOICE => either(a, b),
+        schema::GROUP => both(a, b),
+        schema::INTERLEAVE => both(a, b),
         _ => 0,
     }
 }
@@ -177,7 +177,7 @@ fn fill_data(alone: &mut [u8], p: u32, n: usize, except: u32)
     requires { ⌜ (p < 512) × (n ≤ 512) × (262144 ≤ length (now alone)) ⌝ }
     ensures { λ _. ⌜ ((except ≢ none → except < p) → RowOf (DataEntry (now (alone .entry)) except) (now (alone .entry)) (now (alone .exit)) p n) ⌝ }
 {
-    if except == 4294967295 {
+    if except == schema::NONE {
         fill_same(alone, p, n, 1);
         return;
     }
@@ -237,7 +237,7 @@ fn is_same_row(schema: &[u32], q: u32, p: u32) -> bool
     if p <= q {
         return false;
     }
-    if schema::kind(schema, q) != 5 {
+    if schema::kind(schema, q) != schema::VALUE {
         return false;
     }
     if schema::field_a(schema, q) != schema::field_a(schema, p) {
@@ -297,13 +297,13 @@ fn fill_row(
     let b = schema::field_b(schema, p);
     let n = ends.len();
     match kind {
-        3 => fill_same(alone, p, n, 1),
-        4 => fill_data(alone, p, n, b),
-        5 => fill_value(bytes, ends, schema, leads, alone, noted, p),
-        9 => fill_either(alone, p, n, a, a),
-        10 => fill_either(alone, p, n, a, b),
-        11 => fill_one(alone, nothing, p, n, a, b),
-        12 => fill_one(alone, nothing, p, n, a, b),
+        schema::TEXT => fill_same(alone, p, n, 1),
+        schema::DATA => fill_data(alone, p, n, b),
+        schema::VALUE => fill_value(bytes, ends, schema, leads, alone, noted, p),
+        schema::ONE_OR_MORE => fill_either(alone, p, n, a, a),
+        schema::CHOICE => fill_either(alone, p, n, a, b),
+        schema::GROUP => fill_one(alone, nothing, p, n, a, b),
+        schema::INTERLEAVE => fill_one(alone, nothing, p, n, a, b),
         _ => fill_same(alone, p, n, 0),
     }
 }
@@ -368,5 +368,12 @@ pub fn fill(
     ensures { λ _. ⌜ Filled (stringTable (now (bytes .entry)) (now (ends .entry))) (now (schema .entry)) (now (alone .exit)) (now (nothing .exit)) (now (blank .exit)) ⌝ }
 {
     fill_blank(bytes, ends, blank);
-    fill_rows(bytes, ends, schema, alone, nothing, (schema.len() / 3) as u32);
+    fill_rows(
+        bytes,
+        ends,
+        schema,
+        alone,
+        nothing,
+        (schema.len() / 3) as u32,
+    );
 }

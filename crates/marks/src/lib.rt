@@ -168,8 +168,8 @@ fn operand_words(schema: &[u32], words: &[u64], p: u32) -> u64
     let first = sets::word(words, schema::field_a(schema, p));
     let second = sets::word(words, schema::field_b(schema, p));
     match schema::kind(schema, p) {
-        9 => first,
-        10..=12 => first | second,
+        schema::ONE_OR_MORE => first,
+        schema::CHOICE..=schema::INTERLEAVE => first | second,
         _ => 0,
     }
 }
@@ -194,12 +194,12 @@ fn leaf_word(
     let a = schema::field_a(schema, p);
     let b = schema::field_b(schema, p);
     match schema::kind(schema, p) {
-        3..=5 => strings_alone(alone, items, texts, p),
-        7 => {
+        schema::TEXT..=schema::VALUE => strings_alone(alone, items, texts, p),
+        schema::ATTRIBUTE => {
             attributes_named(schema, instance, e, attributes, a)
                 & attributes_fitting(instance, alone, nothing, blank, e, attributes, b)
         }
-        8 => elements_paired(pairs, items, texts, a),
+        schema::REF => elements_paired(pairs, items, texts, a),
         _ => 0,
     }
 }
@@ -218,7 +218,7 @@ fn named_word(
 {
     let a = schema::field_a(schema, p);
     match schema::kind(schema, p) {
-        7 => attributes_named(schema, instance, e, attributes, a),
+        schema::ATTRIBUTE => attributes_named(schema, instance, e, attributes, a),
         _ => operand_words(schema, named, p),
     }
 }
@@ -238,8 +238,8 @@ fn taken_word(
     let d = schema::field_a(schema, p);
     let c = schema::field_a(schema, d);
     match schema::kind(schema, p) {
-        3..=5 => texts,
-        8 => elements_named(schema, instance, items, texts, c),
+        schema::TEXT..=schema::VALUE => texts,
+        schema::REF => elements_named(schema, instance, items, texts, c),
         _ => operand_words(schema, taken, p),
     }
 }
@@ -249,8 +249,8 @@ fn single_word(schema: &[u32], leaf: u64, single: &[u64], p: u32) -> u64
     ensures { λ r. ⌜ SingleAnswer (now (schema .entry)) leaf (now (single .entry)) p r ⌝ }
 {
     match schema::kind(schema, p) {
-        7 => leaf,
-        9..=10 => operand_words(schema, single, p),
+        schema::ATTRIBUTE => leaf,
+        schema::ONE_OR_MORE..=schema::CHOICE => operand_words(schema, single, p),
         _ => 0,
     }
 }
@@ -303,7 +303,7 @@ fn first_operand(schema: &[u32], p: u32) -> u32
     ensures { λ r. ⌜ r ≡ firstOperand (now (schema .entry)) p ⌝ }
 {
     match schema::kind(schema, p) {
-        9..=12 => schema::field_a(schema, p),
+        schema::ONE_OR_MORE..=schema::INTERLEAVE => schema::field_a(schema, p),
         _ => p,
     }
 }
@@ -313,7 +313,7 @@ fn second_operand(schema: &[u32], p: u32) -> u32
     ensures { λ r. ⌜ r ≡ secondOperand (now (schema .entry)) p ⌝ }
 {
     match schema::kind(schema, p) {
-        10..=12 => schema::field_b(schema, p),
+        schema::CHOICE..=schema::INTERLEAVE => schema::field_b(schema, p),
         _ => p,
     }
 }

@@ -14,19 +14,21 @@ use borrow.Rule.Slice.PartMut.{putMid}
 use Rattle.schema.specs.Kinds as kind
 use Rattle.schema.specs.Relations.{connective}
 use Rattle.schema.specs.Rows.{kindOf, aOf, bOf}
+use Rattle.schema.proofs.Fields.{is-data, is-value}
 use Rattle.schema.specs.Views.{Pattern, notAllowed, noPattern, patternBy, patternOf}
 use Rattle.relations.specs.Relations.{Or, And, Then}
 use Rattle.relations.specs.Words.{Holds, Is, Empty, Gap, Single, Up, front, next}
+use Rattle.sets.specs.Bits.{positions, bit}
 use Rattle.sets.proofs.Members.{and-has, none-has}
 use Rattle.rules.proofs.Booleans.{and-left, and-right, is-false}
 use Rattle.rules.proofs.Passing.{restricted}
-use Rattle.rules.specs.Reach.{Operand, Part, operand, repeated, choice-first, choice-second, group-first, group-second, interleave-first, interleave-second}
+use Rattle.rules.specs.Reach.{oneString, roleOf, Operand, Part, operand, repeated, choice-first, choice-second, group-first, group-second, interleave-first, interleave-second}
 use Rattle.rules.proofs.RowPatterns.{Makes, row-makes, makes-empty, makes-notAllowed, makes-text, makes-data, makes-except, makes-value, makes-attribute, makes-ref, makes-oneOrMore, makes-choice, makes-group, makes-interleave, makes-none}
-use Rattle.matching.specs.Setting.{Setting, Related, Answers}
-use Rattle.matching.specs.Parts.{Where, OneIn, Repeats, AnswersLeaf, Operands}
+use Rattle.matching.specs.Setting.{Setting, tablesIn, Asked, Covered, Relatable, Answers}
+use Rattle.matching.specs.Parts.{Where, OneIn, Repeats, AnswersLeaf, Shared, Operands}
 use Rattle.matching.proofs.Shares.{asked-part, operand-covered}
 use Rattle.matching.proofs.Conditions.{front-put, next-put}
-use Rattle.matching.proofs.Leaves.{related-empty, related-text, related-dataAll, related-dataExcept, related-value, related-ref, related-attribute, related-nothing}
+use Rattle.matching.proofs.Leaves.{related-empty, related-text, related-string, related-ref, related-attribute, related-nothing}
 use Rattle.matching.proofs.Pairs.{related-choice, related-group, related-interleave}
 use Rattle.matching.proofs.Repetitions.{related-oneOrMore}
 
@@ -45,6 +47,22 @@ nothing-made (makes-choice e) n₁ n₃ n₄ n₅ n₈ n₇ c = absurd (true≢f
 nothing-made (makes-group e) n₁ n₃ n₄ n₅ n₈ n₇ c = absurd (true≢false (rw e at c))
 nothing-made (makes-interleave e) n₁ n₃ n₄ n₅ n₈ n₇ c = absurd (true≢false (rw e at c))
 nothing-made (makes-none n) n₁ n₃ n₄ n₅ n₈ n₇ c = inr refl
+
+-- the kinds of patterns of one string
+string-role : {k a b : ℕ} {x : Pattern} → Makes k a b x → 4 ≤ k → k < 6 → roleOf x ≡ oneString
+string-role (makes-data e f) l u = refl
+string-role (makes-except e f) l u = refl
+string-role (makes-value e) l u = refl
+string-role (makes-empty e) l u = absurd (omega arith)
+string-role (makes-notAllowed e) l u = absurd (omega arith)
+string-role (makes-text e) l u = absurd (omega arith)
+string-role (makes-attribute e) l u = absurd (omega arith)
+string-role (makes-ref e) l u = absurd (omega arith)
+string-role (makes-oneOrMore e) l u = absurd (omega arith)
+string-role (makes-choice e) l u = absurd (omega arith)
+string-role (makes-group e) l u = absurd (omega arith)
+string-role (makes-interleave e) l u = absurd (omega arith)
+string-role {k} (makes-none n) l u = absurd (⊎-elim (λ e. n (is-data (sym e))) (λ h. n (is-value (omega arith))) (eq-or-lt-of-le l))
 
 module _ (s : List ℕ) (p : ℕ) where
   -- the pattern of a row from its kind
@@ -67,17 +85,10 @@ module _ (s : List ℕ) (p : ℕ) where
       marked : Is w (Where (a ≡ 0) (Single m k (getD marks p 0)))
       marked = subst (λ (n : ℕ). Is w (Where (a ≡ 0) (Single m k n))) is-mark is
 
-      answers-data : κ ≡ 4 → AnswersLeaf s marks m a k p w
-      unfolding patternBy
-      answers-data e c named taken single S asked covered = go (eqb (bOf s p) kind.none) refl
-        where
-          go : (b : Bool) → eqb (bOf s p) kind.none ≡ b → Is w (Related S m a k p)
-          go true f = related-dataAll S m asked covered w {t = aOf s p} (by-kind (sym is-kind ∙ e) ∙ rw f) marked
-          go false f = related-dataExcept S m asked covered w {t = aOf s p} {q = bOf s p} (by-kind (sym is-kind ∙ e) ∙ rw f) marked
-
-      answers-value : κ ≡ 5 → AnswersLeaf s marks m a k p w
-      unfolding patternBy
-      answers-value e c named taken single S asked covered = related-value S m asked covered w (by-kind (sym is-kind ∙ e)) marked
+      -- data and value
+      answers-string : 4 ≤ κ → κ < 6 → AnswersLeaf s marks m a k p w
+      answers-string l u c named taken single S asked covered =
+          related-string S m asked covered w (string-role (subst (λ (n : ℕ). Makes n (aOf s p) (bOf s p) (patternOf s p)) (sym is-kind) (row-makes s p refl)) l u) marked
 
       answers-ref : κ ≡ 8 → AnswersLeaf s marks m a k p w
       unfolding patternBy
@@ -86,7 +97,7 @@ module _ (s : List ℕ) (p : ℕ) where
       -- data, value and ref take one item
       pub answers-item : (κ ≡ 8) ⊎ ((4 ≤ κ) × (κ < 6)) → AnswersLeaf s marks m a k p w
       answers-item (inl e) = answers-ref e
-      answers-item (inr (l, u)) = ⊎-elim (λ e. answers-data (sym e)) (λ n. answers-value (omega arith)) (eq-or-lt-of-le l)
+      answers-item (inr (l, u)) = answers-string l u
 
     pub answers-attribute : κ ≡ 7 → Is w (Where (OneIn a mark) (Gap m k)) → AnswersLeaf s marks m a k p w
     unfolding patternBy
@@ -101,79 +112,130 @@ module _ (s : List ℕ) (p : ℕ) where
 
   -- an operand is a smaller row
   falls : Setting s → {q : ℕ} {x : Pattern} → patternOf s p ≡ x → Operand q x → q < p
-  falls S {q} e i = restricted (S .passes) (S .bytes) (S .ends) (S .t) .falls p q (subst (Part q) (sym e) (operand i))
+  falls S {q} e i = restricted (tablesIn S) (S .passes) .falls p q (subst (Part q) (sym e) (operand i))
 
   -- what was read of a table for the first operand
   read-at : (table : List ℕ) {q n : ℕ} → q ≡ aOf s p → n ≡ getD table q 0 → n ≡ getD table (aOf s p) 0
   read-at table f g = g ∙ ap (λ (r : ℕ). getD table r 0) f
 
   module _ {marks named taken single w : List ℕ} {m a k : ℕ} where
-    pub answers-oneOrMore : {w₁ : List ℕ} {q alone : ℕ} → a < 2 ^ 64 → kindOf s p ≡ 9 → q ≡ aOf s p → alone ≡ getD single q 0
-        → Answers s marks named taken single m 0 k q w₁ → (Up (Holds w₁) → Is w (Repeats m a k alone (Holds w₁))) → Answers s marks named taken single m a k p w
+    pub answers-oneOrMore : {w₁ : List ℕ} {q alone : ℕ} → a < 2 ^ 64 → kindOf s p ≡ kind.oneOrMore → q ≡ aOf s p → alone ≡ getD single q 0
+        → Answers s marks named taken single m 0 k q w₁ → Is w (Repeats m a k alone (Holds w₁)) → Answers s marks named taken single m a k p w
     unfolding patternBy
     answers-oneOrMore {w₁} {q} {alone} ha e f g first is S asked covered =
         let below = operand-covered S covered (by-kind e) repeated in
         related-oneOrMore S m asked p (aOf s p) below (by-kind e) ha
         (rw f at (first S (asked-part S asked (λ x h. absurd (none-has x h)) (λ x h. h)) (rw f below)))
-        (λ up. rw (read-at single f g) at (is up))
+        (rw (read-at single f g) at is)
 
-    -- a oneOrMore whose operand is no smaller row is in no setting
-    pub answers-no-operand : {q : ℕ} → kindOf s p ≡ 9 → q ≡ aOf s p → ¬ (q < p) → Answers s marks named taken single m a k p w
+    pub answers-choice : {v : List ℕ} → kindOf s p ≡ kind.choice → Operands s marks named taken single m p a k a k v → Is w (Or (Holds (front m v)) (Holds (next m v))) → Answers s marks named taken single m a k p w
     unfolding patternBy
-    answers-no-operand e f n S asked covered = absurd (n (subst (λ (q : ℕ). q < p) (sym f) (falls S (by-kind e) repeated)))
-
-    pub answers-choice : {v : List ℕ} → kindOf s p ≡ 10 → m ≤ 64 → 64 * (p + 1) ≤ length v → Operands s marks named taken single m p a k a k v
-        → (m ≤ 64 → 64 + m ≤ length v → Is w (Or (Holds (front m v)) (Holds (next m v)))) → Answers s marks named taken single m a k p w
-    unfolding patternBy
-    answers-choice e few h both is S asked covered =
-        let l₁ = falls S (by-kind e) choice-first in
-        let l₂ = falls S (by-kind e) choice-second in
+    answers-choice e both is S asked covered =
         let u₁ = operand-covered S covered (by-kind e) choice-first in
         let u₂ = operand-covered S covered (by-kind e) choice-second in
-        related-choice S m asked p (aOf s p) (bOf s p) (by-kind e) (both .first l₁ l₂ S asked u₁) (both .second l₁ l₂ S asked u₂) (is few (omega arith))
+        related-choice S m asked p (aOf s p) (bOf s p) (by-kind e) (both .first S asked u₁) (both .second S asked u₂) is
 
     -- q, n and t are what was read: the first operand, and its words
     module _ {v : List ℕ} {q n : ℕ} (ha : a < 2 ^ 64) (hn : n < 2 ^ 64) (f : q ≡ aOf s p) (g : n ≡ getD named q 0) where
-      pub answers-group : kindOf s p ≡ 11 → m ≤ 64 → 64 * (p + 1) ≤ length v → Operands s marks named taken single m p (bitAnd a n) k (bitAnd a (2 ^ 64 - 1 - n)) k v → (m ≤ 64 → 64 + m ≤ length v → Is w (Then (Holds (front m v)) (Holds (next m v))))
+      pub answers-group : kindOf s p ≡ kind.group → Operands s marks named taken single m p (bitAnd a n) k (bitAnd a (2 ^ 64 - 1 - n)) k v → Is w (Then (Holds (front m v)) (Holds (next m v)))
           → Answers s marks named taken single m a k p w
       unfolding patternBy
-      answers-group e few h both is S asked covered =
-          let l₁ = falls S (by-kind e) group-first in
-          let l₂ = falls S (by-kind e) group-second in
+      answers-group e both is S asked covered =
           let u₁ = operand-covered S covered (by-kind e) group-first in
           let u₂ = operand-covered S covered (by-kind e) group-second in
           let is-named = read-at named f g in
-          let x = both .first l₁ l₂ S (asked-part S asked (λ x h. and-has a n x h .0) (λ x h. h)) u₁ in
-          let y = both .second l₁ l₂ S (asked-part S asked (λ x h. and-has a (2 ^ 64 - 1 - n) x h .0) (λ x h. h)) u₂ in
-          related-group S m asked p (aOf s p) (bOf s p) u₁ ha (rw is-named at hn) (by-kind e) (rw is-named at x) (rw is-named at y) (is few (omega arith))
+          let x = both .first S (asked-part S asked (λ x h. and-has a n x h .0) (λ x h. h)) u₁ in
+          let y = both .second S (asked-part S asked (λ x h. and-has a (2 ^ 64 - 1 - n) x h .0) (λ x h. h)) u₂ in
+          related-group S m asked p (aOf s p) (bOf s p) u₁ ha (rw is-named at hn) (by-kind e) (rw is-named at x) (rw is-named at y) is
 
-      pub answers-interleave : {t : ℕ} → k < 2 ^ 64 → t < 2 ^ 64 → t ≡ getD taken q 0 → kindOf s p ≡ 12 → m ≤ 64 → 64 * (p + 1) ≤ length v
-          → Operands s marks named taken single m p (bitAnd a n) (bitAnd k t) (bitAnd a (2 ^ 64 - 1 - n)) (bitAnd k (2 ^ 64 - 1 - t)) v → (m ≤ 64 → 64 + m ≤ length v → Is w (And (Holds (front m v)) (Holds (next m v))))
+      pub answers-interleave : {t : ℕ} → k < 2 ^ 64 → t < 2 ^ 64 → t ≡ getD taken q 0 → kindOf s p ≡ kind.interleave
+          → Operands s marks named taken single m p (bitAnd a n) (bitAnd k t) (bitAnd a (2 ^ 64 - 1 - n)) (bitAnd k (2 ^ 64 - 1 - t)) v → Is w (And (Holds (front m v)) (Holds (next m v)))
           → Answers s marks named taken single m a k p w
       unfolding patternBy
-      answers-interleave {t} hk ht r e few h both is S asked covered =
-          let l₁ = falls S (by-kind e) interleave-first in
-          let l₂ = falls S (by-kind e) interleave-second in
+      answers-interleave {t} hk ht r e both is S asked covered =
           let u₁ = operand-covered S covered (by-kind e) interleave-first in
           let u₂ = operand-covered S covered (by-kind e) interleave-second in
           let is-named = read-at named f g in
           let is-taken = read-at taken f r in
-          let x = both .first l₁ l₂ S (asked-part S asked (λ x h. and-has a n x h .0) (λ x h. and-has k t x h .0)) u₁ in
-          let y = both .second l₁ l₂ S (asked-part S asked (λ x h. and-has a (2 ^ 64 - 1 - n) x h .0) (λ x h. and-has k (2 ^ 64 - 1 - t) x h .0)) u₂ in
-          related-interleave S m asked p (aOf s p) (bOf s p) u₁ ha (rw is-named at hn) hk (rw is-taken at ht) (by-kind e) (rw (is-named, is-taken) at x) (rw (is-named, is-taken) at y) (is few (omega arith))
+          let x = both .first S (asked-part S asked (λ x h. and-has a n x h .0) (λ x h. and-has k t x h .0)) u₁ in
+          let y = both .second S (asked-part S asked (λ x h. and-has a (2 ^ 64 - 1 - n) x h .0) (λ x h. and-has k (2 ^ 64 - 1 - t) x h .0)) u₂ in
+          related-interleave S m asked p (aOf s p) (bOf s p) u₁ ha (rw is-named at hn) hk (rw is-taken at ht) (by-kind e) (rw (is-named, is-taken) at x) (rw (is-named, is-taken) at y) is
+
+  -- ---- what the operands are asked for, from what row p is
+
+  module _ {marks named taken single work : List ℕ} {m a k : ℕ} (r : Relatable s marks named taken single m a k p work) where
+    shared : {x : Pattern} {a₁ k₁ a₂ k₂ : ℕ} → patternOf s p ≡ x → Operand (aOf s p) x → Operand (bOf s p) x
+        → ((y : ℕ) → bit a₁ y ≡ true → bit a y ≡ true) → ((y : ℕ) → bit k₁ y ≡ true → bit k y ≡ true) → ((y : ℕ) → bit a₂ y ≡ true → bit a y ≡ true) → ((y : ℕ) → bit k₂ y ≡ true → bit k y ≡ true)
+        → Shared s marks named taken single m p a₁ k₁ a₂ k₂ work
+    shared e first second f g h i = record {
+      setting = r .setting;
+      first-less = falls (r .setting) e first;
+      second-less = falls (r .setting) e second;
+      first-asked = asked-part (r .setting) (r .asked) f g;
+      second-asked = asked-part (r .setting) (r .asked) h i;
+      first-covered = operand-covered (r .setting) (r .covered) e first;
+      second-covered = operand-covered (r .setting) (r .covered) e second;
+      few = r .few;
+      room = r .room;
+    }
+
+    pub choice-shared : kindOf s p ≡ kind.choice → Shared s marks named taken single m p a k a k work
+    unfolding patternBy
+    choice-shared e = shared (by-kind e) choice-first choice-second (λ y h. h) (λ y h. h) (λ y h. h) (λ y h. h)
+
+    pub group-shared : (n : ℕ) → kindOf s p ≡ kind.group → Shared s marks named taken single m p (bitAnd a n) k (bitAnd a (2 ^ 64 - 1 - n)) k work
+    unfolding patternBy
+    group-shared n e = shared (by-kind e) group-first group-second (λ y h. and-has a n y h .0) (λ y h. h) (λ y h. and-has a (2 ^ 64 - 1 - n) y h .0) (λ y h. h)
+
+    pub interleave-shared : (n t : ℕ) → kindOf s p ≡ kind.interleave → Shared s marks named taken single m p (bitAnd a n) (bitAnd k t) (bitAnd a (2 ^ 64 - 1 - n)) (bitAnd k (2 ^ 64 - 1 - t)) work
+    unfolding patternBy
+    interleave-shared n t e = shared (by-kind e) interleave-first interleave-second (λ y h. and-has a n y h .0) (λ y h. and-has k t y h .0) (λ y h. and-has a (2 ^ 64 - 1 - n) y h .0) (λ y h. and-has k (2 ^ 64 - 1 - t) y h .0)
+
+    -- the operand of a oneOrMore, without attributes; q is what was read
+    module _ {q : ℕ} (e : kindOf s p ≡ kind.oneOrMore) (f : q ≡ aOf s p) where
+      pub repeated-less : q < p
+      unfolding patternBy
+      repeated-less = subst (λ (q : ℕ). q < p) (sym f) (falls (r .setting) (by-kind e) repeated)
+
+      asked-none : Asked (r .setting) 0 k
+      asked-none = asked-part (r .setting) (r .asked) (λ y h. absurd (none-has y h)) (λ y h. h)
+
+      covered-operand : Covered (r .setting) marks named taken single q
+      unfolding patternBy
+      covered-operand = rw f (operand-covered (r .setting) (r .covered) (by-kind e) repeated)
+
+      pub repeated-relatable : Relatable s marks named taken single m 0 k q work
+      repeated-relatable =
+          let l = repeated-less in
+          let h = r .room in
+          record { setting = r .setting; asked = asked-none; covered = covered-operand; few = r .few; room = omega arith }
+
+      -- its relation goes up
+      pub repeated-up : {w : List ℕ} → Answers s marks named taken single m 0 k q w → Up (Holds w)
+      repeated-up first i j h = first (r .setting) asked-none covered-operand .sound i j h .1 .0
 
   -- ---- the operands themselves: the second is related in the part of the words from 64 on, and p₁ and p₂ are what was read
 
+  module _ {marks named taken single work : List ℕ} {m a₁ k₁ a₂ k₂ : ℕ} (r : Shared s marks named taken single m p a₁ k₁ a₂ k₂ work) where
+    pub first-relatable : {p₁ : ℕ} → p₁ ≡ aOf s p → Relatable s marks named taken single m a₁ k₁ p₁ work
+    first-relatable e =
+        let l = r .first-less in
+        let h = r .room in
+        rw e (record { setting = r .setting; asked = r .first-asked; covered = r .first-covered; few = r .few; room = omega arith })
+
+    pub second-relatable : {p₂ : ℕ} {part : List ℕ} → p₂ ≡ bOf s p → length work ≤ positions + length part → Relatable s marks named taken single m a₂ k₂ p₂ part
+    second-relatable e f =
+        let l = r .second-less in
+        let h = r .room in
+        rw e (record { setting = r .setting; asked = r .second-asked; covered = r .second-covered; few = r .few; room = omega arith })
+
   module _ {marks named taken single : List ℕ} {m a₁ k₁ a₂ k₂ p₁ p₂ : ℕ} where
-    pub operands-related : m ≤ 64 → (n : ℕ) (v u : List ℕ) → 64 ≤ length v → m ≤ length u → p₁ ≡ aOf s p → p₂ ≡ bOf s p
+    pub operands-related : m ≤ positions → (n : ℕ) (v u : List ℕ) → positions ≤ length v → m ≤ length u → p₁ ≡ aOf s p → p₂ ≡ bOf s p
         → Answers s marks named taken single m a₁ k₁ p₁ (front m v) → Answers s marks named taken single m a₂ k₂ p₂ (front m u) → Operands s marks named taken single m p a₁ k₁ a₂ k₂ (putMid 64 n v u)
     operands-related few n v u hv hu e f first second = record {
-      first = λ l₁ l₂. rw (front-put few n v u hv) (rw e at first);
-      second = λ l₁ l₂. rw (next-put few n v u hv hu) (rw f at second);
+      first = rw (front-put few n v u hv) (rw e at first);
+      second = rw (next-put few n v u hv hu) (rw f at second);
     }
-
-    pub no-operands : {w : List ℕ} → p₁ ≡ aOf s p → p₂ ≡ bOf s p → (p₁ < p → p₂ < p → ⊥) → Operands s marks named taken single m p a₁ k₁ a₂ k₂ w
-    no-operands e f n = record { first = λ l₁ l₂. absurd (n (rw e l₁) (rw f l₂)); second = λ l₁ l₂. absurd (n (rw e l₁) (rw f l₂)) }
 
 -- a kind that is none of the four connectives
 pub not-connective : {κ k : ℕ} → κ ≡ k → κ ≢ 9 → κ ≢ 10 → κ ≢ 11 → κ ≢ 12 → connective k ≡ false

@@ -10,25 +10,24 @@ use lib.Dec.{eqb}
 use lib.ListN.{getD}
 use borrow.Author.Tests.{eqb-true, eq-eqb, not-true, not-false}
 use Rattle.schema.specs.Rows.{rowsOf}
-use Rattle.schema.specs.Views.{empty, notAllowed, text, dataAll, dataExcept, value, attribute, ref, noPattern, patternOf}
+use Rattle.schema.specs.Views.{empty, notAllowed, text, attribute, ref, noPattern, patternOf}
 use Rattle.sets.specs.Bits.{bit}
 use Rattle.relations.specs.Relations.{Relation}
 use Rattle.relations.specs.Words.{Is, Empty, Gap, Single}
 use Rattle.relations.proofs.Words.{is-map}
 use Rattle.sets.proofs.Bits.{bit-without}
-use Rattle.rules.specs.Items.{Item, element, string, Attributes, only, Lookups}
-use Rattle.rules.specs.Rules.{NotMatchBy}
+use Rattle.rules.specs.Items.{Item, element, string, Attributes, none, only, Lookups}
+use Rattle.rules.specs.Rules.{Match, NotMatchBy}
 use Rattle.rules.specs.Job.{lookups}
 use Rattle.rules.proofs.Booleans.{and-left, and-right, is-false, sole-member}
 use Rattle.rules.proofs.Inversion.{One}
 use Rattle.rules.proofs.Sequences.{hasElement}
-use Rattle.rules.specs.Spans.{run}
+use Rattle.rules.specs.Spans.{run, Span}
 use Rattle.rules.proofs.Positions.{run-empty, run-single, run-strings}
-use Rattle.rules.specs.Reach.{takesAny}
-use Rattle.rules.specs.Spans.{Span}
-use Rattle.rules.proofs.Spans.{ItemsOnly, OnePaired, span-empty, span-text, span-value, span-dataAll, span-dataExcept, span-ref, span-attribute, span-notAllowed, span-noPattern}
+use Rattle.rules.specs.Reach.{oneString, roleOf, itemBy, takesAny}
+use Rattle.rules.proofs.Spans.{ItemsOnly, OnePaired, span-empty, span-text, span-string, span-ref, span-attribute, span-notAllowed, span-noPattern}
 use Rattle.marks.specs.Marks.{attributeRow, attributesIn, IsString, IsPaired, Takes, TakesAttribute}
-use Rattle.matching.specs.Setting.{Setting, Asked, Related, Covered}
+use Rattle.matching.specs.Setting.{Setting, tablesIn, Asked, Related, Covered}
 use Rattle.matching.specs.Parts.{Where, OneIn}
 use Rattle.matching.proofs.Shares.{numberOf, in-row, row-in, no-attributes, attributes-none, row-covered}
 
@@ -61,7 +60,7 @@ module _ (L : Lookups) where
 
 module _ {s marks named taken single : List ℕ} (S : Setting s) (m : ℕ) {a k p : ℕ} (asked : Asked S a k) (covered : Covered S marks named taken single p) (w : List ℕ) where
   abbrev L : Lookups
-  L = lookups (S .bytes) (S .ends) s (S .t)
+  L = lookups (tablesIn S)
 
   abbrev N : List ℕ → ℕ → Type 0
   N = NotMatchBy L (rowsOf s)
@@ -164,15 +163,10 @@ module _ {s marks named taken single : List ℕ} (S : Setting s) (m : ℕ) {a k 
   takes-at : takesAny (patternOf s p) ≡ true → (x : ℕ) → K x ≡ true → (bit mark x ≡ true) ↔ Takes L (patternOf s p) (S .it x)
   takes-at any x h = row-covered S covered .leaf .leaves x (asked .of-items x h) any
 
-  pub related-dataAll : {t : ℕ} → patternOf s p ≡ dataAll t → Is w (Where (a ≡ 0) (Single m k mark)) → Is w (Related S m a k p)
-  related-dataAll e = one-item (One (λ s. Unit {0})) (IsString L (λ s. Unit {0})) (one-string L (λ s. Unit {0})) (λ x h. rw e at (takes-at (ap takesAny e) x h)) (λ i j. span-dataAll L N A (S .it) K p i j e)
-
-  pub related-dataExcept : {t q : ℕ} → patternOf s p ≡ dataExcept t q → Is w (Where (a ≡ 0) (Single m k mark)) → Is w (Related S m a k p)
-  related-dataExcept {t} {q} e = one-item (One (λ s. N s q)) (IsString L (λ s. N s q)) (one-string L (λ s. N s q)) (λ x h. rw e at (takes-at (ap takesAny e) x h)) (λ i j. span-dataExcept L N A (S .it) K p i j e)
-
-  pub related-value : {t v : ℕ} → patternOf s p ≡ value t v → Is w (Where (a ≡ 0) (Single m k mark)) → Is w (Related S m a k p)
-  related-value {t} {v} e =
-      one-item (One (λ s. L .Equal t s (L .text v))) (IsString L (λ s. L .Equal t s (L .text v))) (one-string L (λ s. L .Equal t s (L .text v))) (λ x h. rw e at (takes-at (ap takesAny e) x h)) (λ i j. span-value L N A (S .it) K p i j e)
+  pub related-string : roleOf (patternOf s p) ≡ oneString → Is w (Where (a ≡ 0) (Single m k mark)) → Is w (Related S m a k p)
+  related-string e =
+      let P : List ℕ → Type 0 = (λ v. Match L N none (string v ∷ []) (patternOf s p)) in
+      one-item (One P) (IsString L P) (one-string L P) (λ x h. rw e at (takes-at (ap itemBy e) x h)) (λ i j. span-string L N A (S .it) K p i j e)
 
   pub related-ref : {d : ℕ} → patternOf s p ≡ ref d → Is w (Where (a ≡ 0) (Single m k mark)) → Is w (Related S m a k p)
   related-ref {d} e = one-item (OnePaired L N d) (IsPaired L d) (one-paired L d) (λ x h. rw e at (takes-at (ap takesAny e) x h)) (λ i j. span-ref L N A (S .it) K p i j (asked .clean) e)

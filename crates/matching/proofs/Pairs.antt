@@ -24,7 +24,7 @@ use Rattle.rules.specs.Restricted.{Restricted}
 use Rattle.rules.specs.Spans.{Span}
 use Rattle.rules.proofs.Spans.{span-choice}
 use Rattle.marks.specs.Marks.{attributesIn}
-use Rattle.matching.specs.Setting.{Setting, Asked, Related, Covered}
+use Rattle.matching.specs.Setting.{Setting, tablesIn, Asked, Related, Covered}
 use Rattle.matching.proofs.Shares.{bits-both, bits-without, numberOf, hasRow, in-row, attributes-both, attributes-without, row-covered}
 
 -- words that hold the relations that a relation is made of
@@ -43,7 +43,7 @@ module _ {w w₁ w₂ : List ℕ} {R R₁ R₂ : Relation} (is₁ : Is w₁ R₁
 
 module _ {s : List ℕ} (S : Setting s) (m : ℕ) {a k : ℕ} (asked : Asked S a k) (p p₁ p₂ : ℕ) where
   abbrev L : Lookups
-  L = lookups (S .bytes) (S .ends) s (S .t)
+  L = lookups (tablesIn S)
 
   abbrev N : List ℕ → ℕ → Type 0
   N = NotMatchBy L (rowsOf s)
@@ -52,7 +52,7 @@ module _ {s : List ℕ} (S : Setting s) (m : ℕ) {a k : ℕ} (asked : Asked S a
   A = attributesIn (S .element) a
 
   R : Restricted L
-  R = restricted (S .passes) (S .bytes) (S .ends) (S .t)
+  R = restricted (tablesIn S) (S .passes)
 
   pub related-choice : {w w₁ w₂ : List ℕ} → patternOf s p ≡ choice p₁ p₂ → Is w₁ (Related S m a k p₁) → Is w₂ (Related S m a k p₂) → Is w (Or (Holds w₁) (Holds w₂)) → Is w (Related S m a k p)
   related-choice e is₁ is₂ is = is-or is₁ is₂ is (λ i j. (to i j, from i j))

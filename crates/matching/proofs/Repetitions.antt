@@ -15,7 +15,7 @@ use Rattle.relations.specs.Relations.{Relation, Plus, once, more}
 use Rattle.relations.specs.Words.{Holds, Is, Up}
 use Rattle.sets.proofs.Least.{trailing}
 use Rattle.sets.proofs.Members.{none-has}
-use Rattle.relations.proofs.Words.{is-map, is-up}
+use Rattle.relations.proofs.Words.{is-map}
 use Rattle.rules.specs.Items.{Attributes, none, only, Lookups}
 use Rattle.rules.specs.Rules.{Match, NotMatchBy}
 use Rattle.rules.specs.Job.{lookups}
@@ -25,7 +25,7 @@ use Rattle.rules.proofs.Repeats.{Repeated, span-oneOrMore, span-oneOrMore-attri
 use Rattle.rules.specs.Restricted.{Restricted}
 use Rattle.rules.specs.Spans.{Span}
 use Rattle.marks.specs.Marks.{attributeRow, attributesIn}
-use Rattle.matching.specs.Setting.{Setting, Asked, Related, Covered}
+use Rattle.matching.specs.Setting.{Setting, tablesIn, Asked, Related, Covered}
 use Rattle.matching.specs.Parts.{Within, Repeats}
 use Rattle.matching.proofs.Shares.{numberOf, in-row, row-in, no-attributes, row-covered}
 
@@ -55,7 +55,7 @@ repeats-map m a k alone f i j (h, inr g) = (h, inr g)
 
 module _ {s marks named taken single : List ℕ} (S : Setting s) (m : ℕ) {a k : ℕ} (asked : Asked S a k) (p q : ℕ) (covered : Covered S marks named taken single q) (e : patternOf s p ≡ oneOrMore q) where
   abbrev L : Lookups
-  L = lookups (S .bytes) (S .ends) s (S .t)
+  L = lookups (tablesIn S)
 
   abbrev N : List ℕ → ℕ → Type 0
   N = NotMatchBy L (rowsOf s)
@@ -83,7 +83,7 @@ module _ {s marks named taken single : List ℕ} (S : Setting s) (m : ℕ) {a k 
       to r = let t = plus-map (λ i j. step i j .0) r in (plus-held t, plus-map (λ i j u. u .1) t)
 
   R : Restricted L
-  R = restricted (S .passes) (S .bytes) (S .ends) (S .t)
+  R = restricted (tablesIn S) (S .passes)
 
   single-at : (x : ℕ) → bit a x ≡ true → (bit alone x ≡ true) ↔ Match L N (only (attributeRow (S .element) x)) [] (L .pattern q)
   single-at x h = row-covered S covered .singles x (asked .of-attributes x h) (R .repeats-flat p q e)
@@ -134,9 +134,9 @@ module _ {s marks named taken single : List ℕ} (S : Setting s) (m : ℕ) {a k 
               ],
             )
 
-  pub related-oneOrMore : {w w₁ : List ℕ} → a < 2 ^ 64 → Is w₁ (Related S m 0 k q) → (Up (Holds w₁) → Is w (Repeats m a k alone (Holds w₁))) → Is w (Related S m a k p)
+  pub related-oneOrMore : {w w₁ : List ℕ} → a < 2 ^ 64 → Is w₁ (Related S m 0 k q) → Is w (Repeats m a k alone (Holds w₁)) → Is w (Related S m a k p)
   related-oneOrMore {w} {w₁} ha is₁ closed =
-      is-map (is-map (closed (is-up is₁ (λ i j r. r .1 .0))) (λ i j. (repeats-map m a k alone (is₁ .sound) i j, repeats-map m a k alone (is₁ .complete) i j))) (λ i j. same i j (ℕ-discrete a 0))
+      is-map (is-map closed (λ i j. (repeats-map m a k alone (is₁ .sound) i j, repeats-map m a k alone (is₁ .complete) i j))) (λ i j. same i j (ℕ-discrete a 0))
     where
       same : (i j : ℕ) → Dec (a ≡ 0) → Repeats m a k alone (Related S m 0 k q) i j ↔ Related S m a k p i j
       same i j (yes z) = without z i j

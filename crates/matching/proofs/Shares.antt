@@ -19,7 +19,7 @@ use Rattle.rules.specs.Reach.{Operand}
 use Rattle.rules.proofs.Repeats.{distinct-part}
 use Rattle.rules.proofs.RowPatterns.{operand-occurs}
 use Rattle.marks.specs.Marks.{attributeRow, attributesIn, RowMarked}
-use Rattle.matching.specs.Setting.{Setting, Asked, Covered}
+use Rattle.matching.specs.Setting.{Setting, tablesIn, Asked, Covered}
 
 -- ---- the members of a word
 
@@ -64,7 +64,7 @@ module _ (e : ℕ) where
 -- ---- the rows that the tables cover
 
 module _ {s : List ℕ} (S : Setting s) {marks named taken single : List ℕ} {p : ℕ} (covered : Covered S marks named taken single p) where
-  pub row-covered : RowMarked (S .bytes) (S .ends) s (S .t) (S .element) (S .attributes) (S .it) (S .items) marks named taken single p
+  pub row-covered : RowMarked (tablesIn S) (S .element) (S .attributes) (S .it) (S .items) marks named taken single p
   row-covered = covered .rows p itself
 
   pub operand-covered : {q : ℕ} {x : Pattern} → patternOf s p ≡ x → Operand q x → Covered S marks named taken single q
@@ -77,8 +77,8 @@ module _ {s : List ℕ} (S : Setting s) {a k : ℕ} (asked : Asked S a k) where
   asked-part {b} {l} f g = record {
     of-attributes = λ x h. asked .of-attributes x (f x h);
     of-items = λ x h. asked .of-items x (g x h);
-    distinct = distinct-part (lookups (S .bytes) (S .ends) s (S .t)) (attributesIn (S .element) a) (attributesIn (S .element) b) wider (asked .distinct);
-    clean = clean-part (lookups (S .bytes) (S .ends) s (S .t)) (S .it) (bit k) (bit l) g (asked .clean);
+    distinct = distinct-part (lookups (tablesIn S)) (attributesIn (S .element) a) (attributesIn (S .element) b) wider (asked .distinct);
+    clean = clean-part (lookups (tablesIn S)) (S .it) (bit k) (bit l) g (asked .clean);
   }
     where
       wider : (r : ℕ) → attributesIn (S .element) b r ≡ true → attributesIn (S .element) a r ≡ true

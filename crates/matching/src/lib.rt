@@ -1,15 +1,17 @@
 // The relation of a pattern over the attributes and items of one element, on the m positions between the items.
 ghost use mathlib.Core.Path.{_≡_};
-ghost use Prim.Native.Nat.{_+_, _*_, _≤_};
-ghost use lib.ListN.{length};
+ghost use Prim.Native.Nat.{_+_};
+ghost use Rattle.schema.specs.Kinds as kind;
 ghost use Rattle.schema.specs.Rows.{kindOf};
-ghost use Rattle.relations.specs.Words.{Is, Holds, Up, front, Gap, Single};
-ghost use Rattle.matching.specs.Parts.{Where, OneIn, Repeats, AnswersLeaf, Operands};
-ghost use Rattle.matching.specs.Setting.{Answers};
+ghost use Rattle.sets.specs.Bits.{positions};
+ghost use Rattle.relations.specs.Words.{Is, Holds, Room, Up, front, Gap, Single};
+ghost use Rattle.matching.specs.Parts.{Where, OneIn, Repeats, AnswersLeaf, Shared, Operands};
+ghost use Rattle.matching.specs.Setting.{Relatable, Answers};
 
 // No attributes, and no item of stop.
 fn no_items(m: u32, a: u64, stop: u64, work: &mut [u64])
-    ensures { λ _. ⌜ (m ≤ 64 → m ≤ length (now (work .entry)) → Is (front m (now (work .exit))) (Where (a ≡ 0) (Gap m stop))) ⌝ }
+    requires { ⌜ Room m m (now work) ⌝ }
+    ensures { λ _. ⌜ Is (front m (now (work .exit))) (Where (a ≡ 0) (Gap m stop)) ⌝ }
 {
     if a == 0 {
         relations::gaps(m, stop, work);
@@ -20,7 +22,8 @@ fn no_items(m: u32, a: u64, stop: u64, work: &mut [u64])
 
 // No attributes, and one item of all, a marked one.
 fn one_item(m: u32, a: u64, all: u64, marked: u64, work: &mut [u64])
-    ensures { λ _. ⌜ (m ≤ 64 → m ≤ length (now (work .entry)) → Is (front m (now (work .exit))) (Where (a ≡ 0) (Single m all marked))) ⌝ }
+    requires { ⌜ Room m m (now work) ⌝ }
+    ensures { λ _. ⌜ Is (front m (now (work .exit))) (Where (a ≡ 0) (Single m all marked)) ⌝ }
 {
     if a == 0 {
         relations::singles(m, all, marked, work);
@@ -31,7 +34,8 @@ fn one_item(m: u32, a: u64, all: u64, marked: u64, work: &mut [u64])
 
 // One attribute, a marked one, and no item of k.
 fn one_attribute(m: u32, a: u64, marked: u64, k: u64, work: &mut [u64])
-    ensures { λ _. ⌜ (m ≤ 64 → m ≤ length (now (work .entry)) → Is (front m (now (work .exit))) (Where (OneIn a marked) (Gap m k))) ⌝ }
+    requires { ⌜ Room m m (now work) ⌝ }
+    ensures { λ _. ⌜ Is (front m (now (work .exit))) (Where (OneIn a marked) (Gap m k)) ⌝ }
 {
     if sets::count(a) == 1 {
         if a & !marked == 0 {
@@ -44,23 +48,24 @@ fn one_attribute(m: u32, a: u64, marked: u64, k: u64, work: &mut [u64])
 
 // The relation of a row without operands: mark has the items that it takes, or the attributes.
 fn leaf(schema: &[u32], marks: &[u64], m: u32, a: u64, k: u64, p: u32, work: &mut [u64])
-    ensures { λ _. ⌜ (m ≤ 64 → m ≤ length (now (work .entry)) → AnswersLeaf (now (schema .entry)) (now (marks .entry)) m a k p (front m (now (work .exit)))) ⌝ }
+    requires { ⌜ Room m m (now work) ⌝ }
+    ensures { λ _. ⌜ AnswersLeaf (now (schema .entry)) (now (marks .entry)) m a k p (front m (now (work .exit))) ⌝ }
 {
     let mark = sets::word(marks, p);
     let kind = schema::kind(schema, p);
     match kind {
-        1 => no_items(m, a, k, work),
-        3 => no_items(m, a, k & !mark, work),
-        4 | 5 | 8 => one_item(m, a, k, mark, work),
-        7 => one_attribute(m, a, mark, k, work),
+        schema::EMPTY => no_items(m, a, k, work),
+        schema::TEXT => no_items(m, a, k & !mark, work),
+        schema::DATA | schema::VALUE | schema::REF => one_item(m, a, k, mark, work),
+        schema::ATTRIBUTE => one_attribute(m, a, mark, k, work),
         _ => relations::clear(m, work),
     }
 }
 
 // The repetitions of the first relation: alone has the attributes that match by themselves.
 fn repeated(m: u32, a: u64, k: u64, alone: u64, work: &mut [u64])
-    requires { ⌜ (m ≤ 64) × (128 ≤ length (now work)) ⌝ }
-    ensures { λ _. ⌜ (Up (Holds (front m (now (work .entry)))) → Is (front m (now (work .exit))) (Repeats m a k alone (Holds (front m (now (work .entry)))))) ⌝ }
+    requires { ⌜ Room m (positions + positions) (now work) × Up (Holds (front m (now work))) ⌝ }
+    ensures { λ _. ⌜ Is (front m (now (work .exit))) (Repeats m a k alone (Holds (front m (now (work .entry))))) ⌝ }
 {
     if a & !alone != 0 {
         relations::clear(m, work);
@@ -70,11 +75,11 @@ fn repeated(m: u32, a: u64, k: u64, alone: u64, work: &mut [u64])
     if a == 0 {
         return;
     }
-    relations::gaps(m, k, &mut work[64..]);
+    relations::gaps(m, k, &mut work[sets::POSITIONS..]);
     relations::union(m, work);
 }
 
-// The relations of the operands of row p, one after the other. An operand that is no smaller row is not visited.
+// The relations of the operands of row p, one after the other.
 fn operands(
     schema: &[u32],
     marks: &[u64],
@@ -89,28 +94,24 @@ fn operands(
     k2: u64,
     work: &mut [u64],
 )
-    requires { ⌜ (m ≤ 64) × (64 * (p + 1) ≤ length (now work)) ⌝ }
+    requires { ⌜ Shared (now schema) (now marks) (now named) (now taken) (now single) m p a1 k1 a2 k2 (now work) ⌝ }
     ensures { λ _. ⌜ Operands (now (schema .entry)) (now (marks .entry)) (now (named .entry)) (now (taken .entry)) (now (single .entry)) m p a1 k1 a2 k2 (now (work .exit)) ⌝ }
 {
     let p1 = schema::field_a(schema, p);
     let p2 = schema::field_b(schema, p);
-    if p1 < p {
-        if p2 < p {
-            relate(schema, marks, named, taken, single, m, a1, k1, p1, work);
-            relate(
-                schema,
-                marks,
-                named,
-                taken,
-                single,
-                m,
-                a2,
-                k2,
-                p2,
-                &mut work[64..],
-            );
-        }
-    }
+    relate(schema, marks, named, taken, single, m, a1, k1, p1, work);
+    relate(
+        schema,
+        marks,
+        named,
+        taken,
+        single,
+        m,
+        a2,
+        k2,
+        p2,
+        &mut work[sets::POSITIONS..],
+    );
 }
 
 // A oneOrMore: its operand without attributes, repeated.
@@ -126,14 +127,12 @@ fn one_or_more(
     p: u32,
     work: &mut [u64],
 )
-    requires { ⌜ (m ≤ 64) × (64 * (p + 1) ≤ length (now work)) × (kindOf (now schema) p ≡ 9) ⌝ }
+    requires { ⌜ (kindOf (now schema) p ≡ kind.oneOrMore) × Relatable (now schema) (now marks) (now named) (now taken) (now single) m a k p (now work) ⌝ }
     ensures { λ _. ⌜ Answers (now (schema .entry)) (now (marks .entry)) (now (named .entry)) (now (taken .entry)) (now (single .entry)) m a k p (front m (now (work .exit))) ⌝ }
 {
     let q = schema::field_a(schema, p);
-    if q < p {
-        relate(schema, marks, named, taken, single, m, 0, k, q, work);
-        repeated(m, a, k, sets::word(single, q), work);
-    }
+    relate(schema, marks, named, taken, single, m, 0, k, q, work);
+    repeated(m, a, k, sets::word(single, q), work);
 }
 
 // A choice: either operand.
@@ -149,7 +148,7 @@ fn choice(
     p: u32,
     work: &mut [u64],
 )
-    requires { ⌜ (m ≤ 64) × (64 * (p + 1) ≤ length (now work)) × (kindOf (now schema) p ≡ 10) ⌝ }
+    requires { ⌜ (kindOf (now schema) p ≡ kind.choice) × Relatable (now schema) (now marks) (now named) (now taken) (now single) m a k p (now work) ⌝ }
     ensures { λ _. ⌜ Answers (now (schema .entry)) (now (marks .entry)) (now (named .entry)) (now (taken .entry)) (now (single .entry)) m a k p (front m (now (work .exit))) ⌝ }
 {
     operands(schema, marks, named, taken, single, m, p, a, k, a, k, work);
@@ -169,7 +168,7 @@ fn group(
     p: u32,
     work: &mut [u64],
 )
-    requires { ⌜ (m ≤ 64) × (64 * (p + 1) ≤ length (now work)) × (kindOf (now schema) p ≡ 11) ⌝ }
+    requires { ⌜ (kindOf (now schema) p ≡ kind.group) × Relatable (now schema) (now marks) (now named) (now taken) (now single) m a k p (now work) ⌝ }
     ensures { λ _. ⌜ Answers (now (schema .entry)) (now (marks .entry)) (now (named .entry)) (now (taken .entry)) (now (single .entry)) m a k p (front m (now (work .exit))) ⌝ }
 {
     let n = sets::word(named, schema::field_a(schema, p));
@@ -205,7 +204,7 @@ fn interleave(
     p: u32,
     work: &mut [u64],
 )
-    requires { ⌜ (m ≤ 64) × (64 * (p + 1) ≤ length (now work)) × (kindOf (now schema) p ≡ 12) ⌝ }
+    requires { ⌜ (kindOf (now schema) p ≡ kind.interleave) × Relatable (now schema) (now marks) (now named) (now taken) (now single) m a k p (now work) ⌝ }
     ensures { λ _. ⌜ Answers (now (schema .entry)) (now (marks .entry)) (now (named .entry)) (now (taken .entry)) (now (single .entry)) m a k p (front m (now (work .exit))) ⌝ }
 {
     let q = schema::field_a(schema, p);
@@ -232,7 +231,7 @@ fn interleave(
     relations::meet(m, work);
 }
 
-// The relation of row p in the first m words of work: i and j are related where the attributes a and the items of k in [i, j) match its pattern. Where m is above 64 or work has not 64 words for each row up to p, nothing is written.
+// The relation of row p in the first m words of work: i and j are related where the attributes a and the items of k in [i, j) match its pattern.
 pub fn relate(
     schema: &[u32],
     marks: &[u64],
@@ -245,20 +244,15 @@ pub fn relate(
     p: u32,
     work: &mut [u64],
 )
-    ensures { λ _. ⌜ (m ≤ 64 → 64 * (p + 1) ≤ length (now (work .entry)) → Answers (now (schema .entry)) (now (marks .entry)) (now (named .entry)) (now (taken .entry)) (now (single .entry)) m a k p (front m (now (work .exit)))) ⌝ }
+    requires { ⌜ Relatable (now schema) (now marks) (now named) (now taken) (now single) m a k p (now work) ⌝ }
+    ensures { λ _. ⌜ Answers (now (schema .entry)) (now (marks .entry)) (now (named .entry)) (now (taken .entry)) (now (single .entry)) m a k p (front m (now (work .exit))) ⌝ }
 {
-    if m > 64 {
-        return;
-    }
-    if work.len() < 64 * (p as usize + 1) {
-        return;
-    }
     let kind = schema::kind(schema, p);
     match kind {
-        9 => one_or_more(schema, marks, named, taken, single, m, a, k, p, work),
-        10 => choice(schema, marks, named, taken, single, m, a, k, p, work),
-        11 => group(schema, marks, named, taken, single, m, a, k, p, work),
-        12 => interleave(schema, marks, named, taken, single, m, a, k, p, work),
+        schema::ONE_OR_MORE => one_or_more(schema, marks, named, taken, single, m, a, k, p, work),
+        schema::CHOICE => choice(schema, marks, named, taken, single, m, a, k, p, work),
+        schema::GROUP => group(schema, marks, named, taken, single, m, a, k, p, work),
+        schema::INTERLEAVE => interleave(schema, marks, named, taken, single, m, a, k, p, work),
         _ => leaf(schema, marks, m, a, k, p, work),
     }
 }

@@ -65,8 +65,7 @@ module _ (L : Lookups) (NotMatch : List ℕ → ℕ → Type 0) where
     -- a pattern of one string
     pub span-string : roleOf (L .pattern p) ≡ oneString → Span L NotMatch A it K p i j ↔ ItemsOnly A it K (One (λ s. Match L NotMatch none (string s ∷ []) (L .pattern p))) i j
     span-string e =
-        let f = string-alone L NotMatch {a = A} {m = run it K i (j - i)} (L .pattern p) e in
-        (
+        let f = string-alone L NotMatch {a = A} {m = run it K i (j - i)} (L .pattern p) e in (
           λ s. let t = f .0 (s .1) in record { ordered = s .0; free = t .0; items = t .1 },
           λ s. (s .ordered, f .1 (s .free, s .items)),
         )

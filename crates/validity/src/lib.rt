@@ -27,8 +27,8 @@ fn root_matches(schema: &[u32], pairs: &[u8], p: u32) -> bool
 {
     let kind = schema::kind(schema, p);
     match kind {
-        8 => tables::byte(pairs, schema::field_a(schema, p) as usize) == 1,
-        10 => matches_either(schema, pairs, p),
+        schema::REF => tables::byte(pairs, schema::field_a(schema, p) as usize) == 1,
+        schema::CHOICE => matches_either(schema, pairs, p),
         _ => false,
     }
 }

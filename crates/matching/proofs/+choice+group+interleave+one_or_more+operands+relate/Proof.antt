@@ -12,7 +12,7 @@ use Rattle.relations.proofs.compose.Reads as compose-reads
 use Rattle.relations.proofs.meet.Reads as meet-reads
 use Rattle.relations.proofs.union.Reads as union-reads
 use Rattle.sets.proofs.word.Reads as word-reads
-use Rattle.matching.proofs.Answering.{answers-oneOrMore, answers-no-operand, answers-choice, answers-group, answers-interleave, operands-related, no-operands, not-connective}
+use Rattle.matching.proofs.Answering.{answers-oneOrMore, answers-choice, answers-group, answers-interleave, choice-shared, group-shared, interleave-shared, repeated-less, repeated-relatable, repeated-up, first-relatable, second-relatable, operands-related, not-connective}
 use Rattle.matching.proofs.choice.Reads as choice
 use Rattle.matching.proofs.choice.Kinds as choice-kinds
 use Rattle.matching.proofs.+choice+group+interleave+one_or_more+operands+relate.Lts-choice as choice-lts
@@ -110,16 +110,16 @@ module _ (t : ℕ) where
   relate-calls = (kind-reads.Asked, kind-reads.Learnt, one-or-more-below, one-or-more.Post, choice-below, choice.Post, group-below, group.Post, interleave-below, interleave.Post, leaf-reads.Asked, leaf-reads.Learnt)
 
   choice-operands-requires : choice-lts.Need-operands-requires choice-calls choice-at choice.Post
-  choice-operands-requires c κs = (omega arith, (omega arith, omega arith))
+  choice-operands-requires c κs = (omega arith, choice-shared _ _ (c .before .before .before .before .before .before .before .pre .1 .1) (c .before .before .before .before .before .before .before .pre .1 .0))
 
   choice-union-requires : choice-lts.Need-union-requires choice-calls choice-at choice.Post
-  choice-union-requires c κs = tt
+  choice-union-requires c κs = let r = c .before .before .before .before .before .before .before .before .before .before .before .pre .1 .1 in let f = r .few in let h = r .room in let l = choice-shared _ _ r (c .before .before .before .before .before .before .before .before .before .before .before .pre .1 .0) .first-less in record { few = f; room = omega arith }
 
   choice-same-length : choice-lts.Need-same-length choice-calls choice-at choice.Post
   choice-same-length c = omega arith
 
   choice-returns : choice-lts.Need-returns choice-calls choice-at choice.Post
-  choice-returns c = answers-choice _ _ (c .before .before .before .before .before .before .before .before .before .before .before .before .before .before .pre .1 .2) (omega arith) (omega arith) (c .before .before .before .before .before .before .operands .ensures) (c .before .before .union .ensures .0)
+  choice-returns c = answers-choice _ _ (c .before .before .before .before .before .before .before .before .before .before .before .before .before .before .pre .1 .0) (c .before .before .before .before .before .before .operands .ensures) (c .before .before .union .ensures .0)
 
   group-field-a-requires : group-lts.Need-field-a-requires group-calls group-at group.Post
   group-field-a-requires c κs = tt
@@ -128,16 +128,16 @@ module _ (t : ℕ) where
   group-word-requires c κs = tt
 
   group-operands-requires : group-lts.Need-operands-requires group-calls group-at group.Post
-  group-operands-requires c κs = (omega arith, (omega arith, omega arith))
+  group-operands-requires c κs = (omega arith, group-shared _ _ (c .before .before .before .before .before .before .before .before .before .pre .1 .1) _ (c .before .before .before .before .before .before .before .before .before .pre .1 .0))
 
   group-compose-requires : group-lts.Need-compose-requires group-calls group-at group.Post
-  group-compose-requires c κs = tt
+  group-compose-requires c κs = let r = c .before .before .before .before .before .before .before .before .before .before .before .before .before .pre .1 .1 in let f = r .few in let h = r .room in let l = group-shared _ _ r 0 (c .before .before .before .before .before .before .before .before .before .before .before .before .before .pre .1 .0) .first-less in record { few = f; room = omega arith }
 
   group-same-length : group-lts.Need-same-length group-calls group-at group.Post
   group-same-length c = omega arith
 
   group-returns : group-lts.Need-returns group-calls group-at group.Post
-  group-returns c = answers-group _ _ (c .before .before .before .before .before .before .before .before .before .before .before .before .before .before .before .before .fits .a .fits) (c .before .before .before .before .before .before .before .before .word .ok) (c .before .before .before .before .before .before .before .before .before .field-a .ensures) (c .before .before .before .before .before .before .before .before .word .ensures) (c .before .before .before .before .before .before .before .before .before .before .before .before .before .before .before .before .pre .1 .2) (omega arith) (omega arith) (c .before .before .before .before .before .before .operands .ensures) (c .before .before .compose .ensures .0)
+  group-returns c = answers-group _ _ (c .before .before .before .before .before .before .before .before .before .before .before .before .before .before .before .before .fits .a .fits) (c .before .before .before .before .before .before .before .before .word .ok) (c .before .before .before .before .before .before .before .before .before .field-a .ensures) (c .before .before .before .before .before .before .before .before .word .ensures) (c .before .before .before .before .before .before .before .before .before .before .before .before .before .before .before .before .pre .1 .0) (c .before .before .before .before .before .before .operands .ensures) (c .before .before .compose .ensures .0)
 
   interleave-field-a-requires : interleave-lts.Need-field-a-requires interleave-calls interleave-at interleave.Post
   interleave-field-a-requires c κs = tt
@@ -149,37 +149,45 @@ module _ (t : ℕ) where
   interleave-word-requires-2 c κs = tt
 
   interleave-operands-requires : interleave-lts.Need-operands-requires interleave-calls interleave-at interleave.Post
-  interleave-operands-requires c κs = (omega arith, (omega arith, omega arith))
+  interleave-operands-requires c κs = (omega arith, interleave-shared _ _ (c .before .before .before .before .before .before .before .before .before .before .pre .1 .1) _ _ (c .before .before .before .before .before .before .before .before .before .before .pre .1 .0))
 
   interleave-meet-requires : interleave-lts.Need-meet-requires interleave-calls interleave-at interleave.Post
-  interleave-meet-requires c κs = tt
+  interleave-meet-requires c κs = let r = c .before .before .before .before .before .before .before .before .before .before .before .before .before .before .pre .1 .1 in let f = r .few in let h = r .room in let l = interleave-shared _ _ r 0 0 (c .before .before .before .before .before .before .before .before .before .before .before .before .before .before .pre .1 .0) .first-less in record { few = f; room = omega arith }
 
   interleave-same-length : interleave-lts.Need-same-length interleave-calls interleave-at interleave.Post
   interleave-same-length c = omega arith
 
   interleave-returns : interleave-lts.Need-returns interleave-calls interleave-at interleave.Post
-  interleave-returns c = answers-interleave _ _ (c .before .before .before .before .before .before .before .before .before .before .before .before .before .before .before .before .before .fits .a .fits) (c .before .before .before .before .before .before .before .before .before .word .ok) (c .before .before .before .before .before .before .before .before .before .before .field-a .ensures) (c .before .before .before .before .before .before .before .before .before .word .ensures) (c .before .before .before .before .before .before .before .before .before .before .before .before .before .before .before .before .before .fits .k .fits) (c .before .before .before .before .before .before .before .before .word2 .ok) (c .before .before .before .before .before .before .before .before .word2 .ensures) (c .before .before .before .before .before .before .before .before .before .before .before .before .before .before .before .before .before .pre .1 .2) (omega arith) (omega arith) (c .before .before .before .before .before .before .operands .ensures) (c .before .before .meet .ensures .0)
+  interleave-returns c =
+      answers-interleave _ _ (c .before .before .before .before .before .before .before .before .before .before .before .before .before .before .before .before .before .fits .a .fits) (c .before .before .before .before .before .before .before .before .before .word .ok) (c .before .before .before .before .before .before .before .before .before .before .field-a .ensures) (c .before .before .before .before .before .before .before .before .before .word .ensures)
+      (c .before .before .before .before .before .before .before .before .before .before .before .before .before .before .before .before .before .fits .k .fits) (c .before .before .before .before .before .before .before .before .word2 .ok) (c .before .before .before .before .before .before .before .before .word2 .ensures) (c .before .before .before .before .before .before .before .before .before .before .before .before .before .before .before .before .before .pre .1 .0) (c .before .before .before .before .before .before .operands .ensures) (c .before .before .meet .ensures .0)
 
   one-or-more-field-a-requires : one-or-more-lts.Need-field-a-requires one-or-more-calls one-or-more-at one-or-more.Post
   one-or-more-field-a-requires c κs = tt
 
   one-or-more-relate-requires : one-or-more-lts.Need-relate-requires one-or-more-calls one-or-more-at one-or-more.Post
-  one-or-more-relate-requires c κs = (omega arith, tt)
+  one-or-more-relate-requires c κs =
+      let r = c .before .before .before .before .before .before .before .before .pre .1 in
+      let l = repeated-less _ _ (r .1) (r .0) (c .before .field-a .ensures) in
+      (omega arith, repeated-relatable _ _ (r .1) (r .0) (c .before .field-a .ensures))
 
   one-or-more-word-requires : one-or-more-lts.Need-word-requires one-or-more-calls one-or-more-at one-or-more.Post
   one-or-more-word-requires c κs = tt
 
   one-or-more-repeated-requires : one-or-more-lts.Need-repeated-requires one-or-more-calls one-or-more-at one-or-more.Post
-  one-or-more-repeated-requires c κs = (omega arith, omega arith)
+  one-or-more-repeated-requires c κs =
+      let r = c .before .before .before .before .before .before .before .before .before .before .before .before .before .pre .1 in
+      let f = r .1 .few in
+      let h = r .1 .room in
+      let l = repeated-less _ _ (r .1) (r .0) (c .before .before .before .before .before .before .field-a .ensures) in
+      (record { few = f; room = omega arith }, repeated-up _ _ (r .1) (r .0) (c .before .before .before .before .before .before .field-a .ensures) (c .before .before .before .before .relate .ensures))
 
   one-or-more-same-length : one-or-more-lts.Need-same-length one-or-more-calls one-or-more-at one-or-more.Post
   one-or-more-same-length c = omega arith
 
   one-or-more-returns : one-or-more-lts.Need-returns one-or-more-calls one-or-more-at one-or-more.Post
-  one-or-more-returns c = answers-oneOrMore _ _ (c .before .before .before .before .before .before .before .before .before .before .before .before .before .before .before .before .before .fits .a .fits) (c .before .before .before .before .before .before .before .before .before .before .before .before .before .before .before .before .before .pre .1 .2) (c .before .before .before .before .before .before .before .before .before .before .field-a .ensures) (c .before .before .before .before .word .ensures) (c .before .before .before .before .before .before .before .relate .ensures (omega arith) (omega arith)) (c .before .before .repeated .ensures)
-
-  one-or-more-returns-2 : one-or-more-lts.Need-returns-2 one-or-more-calls one-or-more-at one-or-more.Post
-  one-or-more-returns-2 c = answers-no-operand _ _ (c .before .before .before .before .before .before .before .before .pre .1 .2) (c .before .field-a .ensures) (λ l. omega arith)
+  one-or-more-returns c =
+      answers-oneOrMore _ _ (c .before .before .before .before .before .before .before .before .before .before .before .before .before .before .before .before .fits .a .fits) (c .before .before .before .before .before .before .before .before .before .before .before .before .before .before .before .before .pre .1 .0) (c .before .before .before .before .before .before .before .before .before .field-a .ensures) (c .before .before .before .before .word .ensures) (c .before .before .before .before .before .before .before .relate .ensures) (c .before .before .repeated .ensures)
 
   operands-field-a-requires : operands-lts.Need-field-a-requires operands-calls operands-at operands.Post
   operands-field-a-requires c κs = tt
@@ -188,19 +196,28 @@ module _ (t : ℕ) where
   operands-field-b-requires c κs = tt
 
   operands-relate-requires : operands-lts.Need-relate-requires operands-calls operands-at operands.Post
-  operands-relate-requires c κs = (omega arith, tt)
+  operands-relate-requires c κs =
+      let r = c .before .before .before .before .before .before .before .before .before .pre .1 in
+      let l = r .first-less in
+      let e = c .before .before .field-a .ensures in
+      (omega arith, first-relatable _ _ r e)
 
   operands-sub-relate : operands-lts.Need-sub-relate operands-calls operands-at operands.Post
-  operands-sub-relate c = omega arith
+  operands-sub-relate c = let r = c .before .before .before .before .before .before .before .before .before .before .before .before .pre .1 .room in omega arith
 
   operands-part-relate-start : operands-lts.Need-part-relate-start operands-calls operands-at operands.Post
-  operands-part-relate-start c = omega arith
+  operands-part-relate-start c = let r = c .before .before .before .before .before .before .before .before .before .before .before .before .pre .1 .room in omega arith
 
   operands-part-relate-end : operands-lts.Need-part-relate-end operands-calls operands-at operands.Post
-  operands-part-relate-end c = omega arith
+  operands-part-relate-end c = let r = c .before .before .before .before .before .before .before .before .before .before .before .before .pre .1 .room in omega arith
 
   operands-relate-requires-2 : operands-lts.Need-relate-requires-2 operands-calls operands-at operands.Post
-  operands-relate-requires-2 c κs = (omega arith, tt)
+  operands-relate-requires-2 c κs =
+      let r = c .before .before .before .before .before .before .before .before .before .before .before .before .before .pre .1 in
+      let l = r .second-less in
+      let h = r .room in
+      let e = c .before .before .before .before .before .field-b .ensures in
+      (omega arith, second-relatable _ _ r e (omega arith))
 
   operands-same-length : operands-lts.Need-same-length operands-calls operands-at operands.Post
   operands-same-length c = omega arith
@@ -208,73 +225,60 @@ module _ (t : ℕ) where
   operands-returns : operands-lts.Need-returns operands-calls operands-at operands.Post
   operands-returns c =
       let v = c .before .before .before .before .before .before .relate .last .1 .1 .1 .1 .1 .1 .1 .1 .1 .0 in
-      operands-related _ _ (omega arith) (length v - 64) v (c .before .before .relate2 .last .1 .1 .1 .1 .1 .1 .1 .1 .1 .0) (omega arith) (omega arith) (c .before .before .before .before .before .before .before .before .before .before .before .field-a .ensures) (c .before .before .before .before .before .before .before .before .before .before .field-b .ensures) (c .before .before .before .before .before .before .relate .ensures (omega arith) (omega arith)) (c .before .before .relate2 .ensures (omega arith) (omega arith))
-
-  operands-returns-2 : operands-lts.Need-returns-2 operands-calls operands-at operands.Post
-  operands-returns-2 c = no-operands _ _ (c .before .before .before .field-a .ensures) (c .before .before .field-b .ensures) (λ l₁ l₂. omega arith)
-
-  operands-returns-3 : operands-lts.Need-returns-3 operands-calls operands-at operands.Post
-  operands-returns-3 c = no-operands _ _ (c .before .before .field-a .ensures) (c .before .field-b .ensures) (λ l₁ l₂. omega arith)
-
-  relate-returns : relate-lts.Need-returns relate-calls relate-at relate.Post
-  relate-returns c f l = absurd (omega arith)
-
-  relate-add-if2 : relate-lts.Need-add-if2 relate-calls relate-at relate.Post
-  relate-add-if2 c = omega arith
-
-  relate-mul-if2 : relate-lts.Need-mul-if2 relate-calls relate-at relate.Post
-  relate-mul-if2 c = omega arith
-
-  relate-returns-2 : relate-lts.Need-returns-2 relate-calls relate-at relate.Post
-  relate-returns-2 c f l = absurd (omega arith)
+      let r = c .before .before .before .before .before .before .before .before .before .before .before .before .before .before .before .before .pre .1 in
+      let f = r .few in
+      let h = r .room in
+      let l = r .second-less in
+      operands-related _ _ f (length v - 64) v (c .before .before .relate2 .last .1 .1 .1 .1 .1 .1 .1 .1 .1 .0) (omega arith) (omega arith) (c .before .before .before .before .before .before .before .before .before .field-a .ensures) (c .before .before .before .before .before .before .before .before .field-b .ensures)
+      (c .before .before .before .before .before .before .relate .ensures) (c .before .before .relate2 .ensures)
 
   relate-kind-requires : relate-lts.Need-kind-requires relate-calls relate-at relate.Post
   relate-kind-requires c κs = tt
 
   relate-one-or-more-requires : relate-lts.Need-one-or-more-requires relate-calls relate-at relate.Post
-  relate-one-or-more-requires c κs = (omega arith, (omega arith, omega arith, sym (c .before .before .kind .ensures) ∙ c .before .match .keys1))
+  relate-one-or-more-requires c κs = (omega arith, (sym (c .before .before .kind .ensures) ∙ c .before .match .keys1, c .before .before .before .before .before .before .before .before .before .pre .1))
 
   relate-choice-requires : relate-lts.Need-choice-requires relate-calls relate-at relate.Post
-  relate-choice-requires c κs = (omega arith, (omega arith, omega arith, sym (c .before .before .kind .ensures) ∙ c .before .match .keys2))
+  relate-choice-requires c κs = (omega arith, (sym (c .before .before .kind .ensures) ∙ c .before .match .keys2, c .before .before .before .before .before .before .before .before .before .pre .1))
 
   relate-group-requires : relate-lts.Need-group-requires relate-calls relate-at relate.Post
-  relate-group-requires c κs = (omega arith, (omega arith, omega arith, sym (c .before .before .kind .ensures) ∙ c .before .match .keys3))
+  relate-group-requires c κs = (omega arith, (sym (c .before .before .kind .ensures) ∙ c .before .match .keys3, c .before .before .before .before .before .before .before .before .before .pre .1))
 
   relate-interleave-requires : relate-lts.Need-interleave-requires relate-calls relate-at relate.Post
-  relate-interleave-requires c κs = (omega arith, (omega arith, omega arith, sym (c .before .before .kind .ensures) ∙ c .before .match .keys4))
+  relate-interleave-requires c κs = (omega arith, (sym (c .before .before .kind .ensures) ∙ c .before .match .keys4, c .before .before .before .before .before .before .before .before .before .pre .1))
 
   relate-leaf-requires : relate-lts.Need-leaf-requires relate-calls relate-at relate.Post
-  relate-leaf-requires c κs = tt
+  relate-leaf-requires c κs = let r = c .before .before .before .before .before .before .before .before .before .pre .1 in let f = r .few in let h = r .room in record { few = f; room = omega arith }
 
   relate-same-length : relate-lts.Need-same-length relate-calls relate-at relate.Post
   relate-same-length c = omega arith
 
-  relate-returns-3 : relate-lts.Need-returns-3 relate-calls relate-at relate.Post
-  relate-returns-3 c f l = c .before .before .one-or-more .ensures
+  relate-returns : relate-lts.Need-returns relate-calls relate-at relate.Post
+  relate-returns c = c .before .before .one-or-more .ensures
 
   relate-same-length-2 : relate-lts.Need-same-length-2 relate-calls relate-at relate.Post
   relate-same-length-2 c = omega arith
 
-  relate-returns-4 : relate-lts.Need-returns-4 relate-calls relate-at relate.Post
-  relate-returns-4 c f l = c .before .before .choice .ensures
+  relate-returns-2 : relate-lts.Need-returns-2 relate-calls relate-at relate.Post
+  relate-returns-2 c = c .before .before .choice .ensures
 
   relate-same-length-3 : relate-lts.Need-same-length-3 relate-calls relate-at relate.Post
   relate-same-length-3 c = omega arith
 
-  relate-returns-5 : relate-lts.Need-returns-5 relate-calls relate-at relate.Post
-  relate-returns-5 c f l = c .before .before .group .ensures
+  relate-returns-3 : relate-lts.Need-returns-3 relate-calls relate-at relate.Post
+  relate-returns-3 c = c .before .before .group .ensures
 
   relate-same-length-4 : relate-lts.Need-same-length-4 relate-calls relate-at relate.Post
   relate-same-length-4 c = omega arith
 
-  relate-returns-6 : relate-lts.Need-returns-6 relate-calls relate-at relate.Post
-  relate-returns-6 c f l = c .before .before .interleave .ensures
+  relate-returns-4 : relate-lts.Need-returns-4 relate-calls relate-at relate.Post
+  relate-returns-4 c = c .before .before .interleave .ensures
 
   relate-same-length-5 : relate-lts.Need-same-length-5 relate-calls relate-at relate.Post
   relate-same-length-5 c = omega arith
 
-  relate-returns-7 : relate-lts.Need-returns-7 relate-calls relate-at relate.Post
-  relate-returns-7 c f l = let rest = c .before .before .before .before .match .rest in c .before .before .leaf .ensures (omega arith) (omega arith) (not-connective (c .before .before .before .before .before .kind .ensures) (rest .0 .0 .0 .1) (rest .0 .0 .1) (rest .0 .1) (rest .1)) _ _ _
+  relate-returns-5 : relate-lts.Need-returns-5 relate-calls relate-at relate.Post
+  relate-returns-5 c = let rest = c .before .before .before .before .match .rest in c .before .before .leaf .ensures (not-connective (c .before .before .before .before .before .kind .ensures) (rest .0 .0 .0 .1) (rest .0 .0 .1) (rest .0 .1) (rest .1)) _ _ _
 
 pub +choice+group+interleave+one-or-more+operands+relate-spec : {M : Type 1} → statement M
 +choice+group+interleave+one-or-more+operands+relate-spec =
@@ -292,8 +296,8 @@ pub +choice+group+interleave+one-or-more+operands+relate-spec : {M : Type 1} →
     (λ t. interleave-lts.spec (interleave-calls t) (interleave-at t) interleave.Post
     (interleave-field-a-requires t) (interleave-word-requires t) (interleave-word-requires-2 t) (interleave-operands-requires t) (interleave-meet-requires t) (interleave-same-length t) (interleave-returns t))
     (λ t. one-or-more-lts.spec (one-or-more-calls t) (one-or-more-at t) one-or-more.Post
-    (one-or-more-field-a-requires t) (one-or-more-relate-requires t) (one-or-more-word-requires t) (one-or-more-repeated-requires t) (one-or-more-same-length t) (one-or-more-returns t) (one-or-more-returns-2 t))
+    (one-or-more-field-a-requires t) (one-or-more-relate-requires t) (one-or-more-word-requires t) (one-or-more-repeated-requires t) (one-or-more-same-length t) (one-or-more-returns t))
     (λ t. operands-lts.spec (operands-calls t) (operands-at t) operands.Post
-    (operands-field-a-requires t) (operands-field-b-requires t) (operands-relate-requires t) (operands-sub-relate t) (operands-part-relate-start t) (operands-part-relate-end t) (operands-relate-requires-2 t) (operands-same-length t) (operands-returns t) (operands-returns-2 t) (operands-returns-3 t))
+    (operands-field-a-requires t) (operands-field-b-requires t) (operands-relate-requires t) (operands-sub-relate t) (operands-part-relate-start t) (operands-part-relate-end t) (operands-relate-requires-2 t) (operands-same-length t) (operands-returns t))
     (λ t. relate-lts.spec (relate-calls t) (relate-at t) relate.Post
-    (relate-returns t) (relate-add-if2 t) (relate-mul-if2 t) (relate-returns-2 t) (relate-kind-requires t) (relate-one-or-more-requires t) (relate-choice-requires t) (relate-group-requires t) (relate-interleave-requires t) (relate-leaf-requires t) (relate-same-length t) (relate-returns-3 t) (relate-same-length-2 t) (relate-returns-4 t) (relate-same-length-3 t) (relate-returns-5 t) (relate-same-length-4 t) (relate-returns-6 t) (relate-same-length-5 t) (relate-returns-7 t))
+    (relate-kind-requires t) (relate-one-or-more-requires t) (relate-choice-requires t) (relate-group-requires t) (relate-interleave-requires t) (relate-leaf-requires t) (relate-same-length t) (relate-returns t) (relate-same-length-2 t) (relate-returns-2 t) (relate-same-length-3 t) (relate-returns-3 t) (relate-same-length-4 t) (relate-returns-4 t) (relate-same-length-5 t) (relate-returns-5 t))

@@ -31,31 +31,31 @@ same-length : tie.Need-same-length
 same-length c = search needs
 
 returns : tie.Need-returns
-returns c f l = answers-empty _ _ _ (c .before .before .before .before .before .kind .ensures) (c .before .before .before .before .before .before .word .ensures) (c .before .before .before .before .match .keys1) (c .before .before .no-items .ensures f l)
+returns c = answers-empty _ _ _ (c .before .before .before .before .before .kind .ensures) (c .before .before .before .before .before .before .word .ensures) (c .before .before .before .before .match .keys1) (c .before .before .no-items .ensures)
 
 same-length-2 : tie.Need-same-length-2
 same-length-2 c = search needs
 
 returns-2 : tie.Need-returns-2
-returns-2 c f l = answers-text _ _ _ (c .before .before .before .before .before .kind .ensures) (c .before .before .before .before .before .before .word .ensures) (c .before .before .before .before .before .before .before .before .before .before .fits .k .fits) (c .before .before .before .before .before .before .word .ok) (c .before .before .before .before .match .keys2) (c .before .before .no-items2 .ensures f l)
+returns-2 c = answers-text _ _ _ (c .before .before .before .before .before .kind .ensures) (c .before .before .before .before .before .before .word .ensures) (c .before .before .before .before .before .before .before .before .before .before .fits .k .fits) (c .before .before .before .before .before .before .word .ok) (c .before .before .before .before .match .keys2) (c .before .before .no-items2 .ensures)
 
 same-length-3 : tie.Need-same-length-3
 same-length-3 c = search needs
 
 returns-3 : tie.Need-returns-3
-returns-3 c f l = answers-attribute _ _ _ (c .before .before .before .before .before .kind .ensures) (c .before .before .before .before .before .before .word .ensures) (c .before .before .before .before .match .keys4) (c .before .before .one-attribute .ensures f l)
+returns-3 c = answers-attribute _ _ _ (c .before .before .before .before .before .kind .ensures) (c .before .before .before .before .before .before .word .ensures) (c .before .before .before .before .match .keys4) (c .before .before .one-attribute .ensures)
 
 same-length-4 : tie.Need-same-length-4
 same-length-4 c = search needs
 
 returns-4 : tie.Need-returns-4
-returns-4 c f l = let rest = c .before .before .before .before .before .match .rest in answers-nothing _ _ _ (c .before .before .before .before .before .before .kind .ensures) (c .before .before .before .before .before .before .before .word .ensures) (rest .0 .0 .0 .1) (rest .0 .0 .1) (λ e. ⊎-elim (λ x. omega arith) (λ x. omega arith) (c .before .before .before .before .if1 .came)) (λ e. ⊎-elim (λ x. omega arith) (λ x. omega arith) (c .before .before .before .before .if1 .came)) (rest .0 .1) (rest .1) (c .before .before .clear .ensures .0 f l)
+returns-4 c = let rest = c .before .before .before .before .before .match .rest in answers-nothing _ _ _ (c .before .before .before .before .before .before .kind .ensures) (c .before .before .before .before .before .before .before .word .ensures) (rest .0 .0 .0 .1) (rest .0 .0 .1) (λ e. ⊎-elim (λ x. omega arith) (λ x. omega arith) (c .before .before .before .before .if1 .came)) (λ e. ⊎-elim (λ x. omega arith) (λ x. omega arith) (c .before .before .before .before .if1 .came)) (rest .0 .1) (rest .1) (c .before .before .clear .ensures .0)
 
 same-length-5 : tie.Need-same-length-5
 same-length-5 c = search needs
 
 returns-5 : tie.Need-returns-5
-returns-5 c f l = answers-item _ _ _ (c .before .before .before .before .before .kind .ensures) (c .before .before .before .before .before .before .word .ensures) (c .before .before .one-item .ensures f l) (⊎-map (λ x. x .keys3) (λ x. let n = x .0 .rest .0 .0 .1 in let u = x .1 .left in let v = x .2 .taken in (omega arith, omega arith)) (c .before .before .before .before .match .came))
+returns-5 c = answers-item _ _ _ (c .before .before .before .before .before .kind .ensures) (c .before .before .before .before .before .before .word .ensures) (c .before .before .one-item .ensures) (⊎-map (λ x. x .keys3) (λ x. let n = x .0 .rest .0 .0 .1 in let u = x .1 .left in let v = x .2 .taken in (omega arith, omega arith)) (c .before .before .before .before .match .came))
 
 pub leaf-spec : {M : Type 1} → statement M
 leaf-spec =

@@ -14,7 +14,7 @@ same-length : tie.Need-same-length
 same-length c = search needs
 
 returns : tie.Need-returns
-returns c up = repeats-none (c .before .before .before .before .before .before .args .m) _ (c .before .before .before .before .before .before .args .k) _ _ (c .before .before .before .before .before .before .fits .a .fits) (c .before .before .before .before .before .before .fits .alone .fits) (c .before .before .before .before .if1 .taken) (c .before .before .clear .ensures .0 (omega arith) (omega arith))
+returns c = repeats-none (c .before .before .before .before .before .before .args .m) _ (c .before .before .before .before .before .before .args .k) _ _ (c .before .before .before .before .before .before .fits .a .fits) (c .before .before .before .before .before .before .fits .alone .fits) (c .before .before .before .before .if1 .taken) (c .before .before .clear .ensures .0)
 
 close-requires : tie.Need-close-requires
 close-requires c κs = search needs
@@ -23,7 +23,7 @@ same-length-2 : tie.Need-same-length-2
 same-length-2 c = search needs
 
 returns-2 : tie.Need-returns-2
-returns-2 c up = repeats-items (c .before .before .before .before .before .before .before .args .m) _ (c .before .before .before .before .before .before .before .args .k) _ _ (c .before .before .before .before .before .before .before .fits .a .fits) (c .before .before .before .before .before .before .before .fits .alone .fits) (c .if2 .taken) (c .before .before .before .close .ensures .0 (omega arith) (omega arith) up)
+returns-2 c = repeats-items (c .before .before .before .before .before .before .before .args .m) _ (c .before .before .before .before .before .before .before .args .k) _ _ (c .before .before .before .before .before .before .before .fits .a .fits) (c .before .before .before .before .before .before .before .fits .alone .fits) (c .if2 .taken) (c .before .before .before .close .ensures .0)
 
 sub-gaps : tie.Need-sub-gaps
 sub-gaps c = search needs
@@ -44,9 +44,9 @@ same-length-3 : tie.Need-same-length-3
 same-length-3 c = search needs
 
 returns-3 : tie.Need-returns-3
-returns-3 c up =
+returns-3 c =
     let v = c .before .before .before .before .before .before .before .before .before .before .before .close .last .1 .0 in
-    repeats-beside (c .before .before .before .before .before .before .before .before .before .before .before .before .before .before .before .args .m) _ (c .before .before .before .before .before .before .before .before .before .before .before .before .before .before .before .args .k) _ _ (c .before .before .before .before .before .before .before .before .before .before .before .before .before .before .before .fits .a .fits) (c .before .before .before .before .before .before .before .before .before .before .before .before .before .before .before .fits .alone .fits) (omega arith) (length v - 64) v (c .before .before .before .before .before .before .gaps .last .1 .1 .0) (omega arith) (omega arith) (c .before .before .before .before .before .before .before .before .before .before .before .before .before .if1 .left) (omega arith) (c .before .before .before .before .before .before .before .before .before .before .before .close .ensures .0 (omega arith) (omega arith) up) (c .before .before .before .before .before .before .gaps .ensures .0 (omega arith) (omega arith)) (c .before .before .union .ensures .0 (omega arith) (omega arith))
+    repeats-beside (c .before .before .before .before .before .before .before .before .before .before .before .before .before .before .before .args .m) _ (c .before .before .before .before .before .before .before .before .before .before .before .before .before .before .before .args .k) _ _ (c .before .before .before .before .before .before .before .before .before .before .before .before .before .before .before .fits .a .fits) (c .before .before .before .before .before .before .before .before .before .before .before .before .before .before .before .fits .alone .fits) (omega arith) (length v - 64) v (c .before .before .before .before .before .before .gaps .last .1 .1 .0) (omega arith) (omega arith) (c .before .before .before .before .before .before .before .before .before .before .before .before .before .if1 .left) (omega arith) (c .before .before .before .before .before .before .before .before .before .before .before .close .ensures .0) (c .before .before .before .before .before .before .gaps .ensures .0) (c .before .before .union .ensures .0)
 
 pub repeated-spec : {M : Type 1} → statement M
 repeated-spec =
