@@ -3,6 +3,7 @@ use Prim.Native.Nat.{ℕ, zero, suc, _+_, _-_, _*_, _/_, _%_, _^_, _≤_, _<_}
 use mathlib.Core.Path.{_≡_, refl, sym, _∙_, ap, fun-ext}
 use mathlib.Core.Bool.{Bool, true, false, _&&_, true≢false}
 use mathlib.Core.List.{List}
+use mathlib.Core.Logic.{⊎-elim}
 use native.Mathlib.Omega.{arith}
 use native.Mathlib.Decide.{decLt}
 use lib.Dec.{ltb}
@@ -14,10 +15,10 @@ use Rattle.instance.specs.Width.{maxWidth, howMany, WidthFault, many-attributes
 use Rattle.instance.proofs.Order.{attribute-kind}
 use Rattle.instance.proofs.Elements.{attribute-later, attributes-first, attributes-differ}
 use Rattle.sets.specs.Bits.{flag, bit}
+use Rattle.sets.specs.Collecting.{Collects}
 use Rattle.sets.proofs.Bits.{two-pow, bit-none, one-shl}
 use Rattle.rules.proofs.Booleans.{is-false, and-right}
 use Rattle.marks.specs.Marks.{attributeRow, attributesIn}
-use Rattle.marks.specs.Tests.{Collects}
 use Rattle.contents.specs.Contents.{Counted}
 
 -- all positions below n
@@ -99,11 +100,14 @@ module _ {strings : ℕ} {t : List ℕ} (right : NodesRight strings t) (e : ℕ)
     pub attributes-same : {a : ℕ} → n ≤ maxWidth → Collects (λ k. true) n a → attributesIn e a ≡ isAttribute t e
     attributes-same {a} few w = fun-ext (λ r. go r (decLt e r))
       where
+        ended : isAttribute t e (attributeRow e n) ≡ false
+        ended = ⊎-elim (λ f. f) (λ q. absurd (omega (arith, q))) (c .last)
+
         at : (x : ℕ) → Dec (x < n) → (ltb x n && true) ≡ isAttribute t e (attributeRow e x)
         at x (yes l) = rw (lt-ltb x n l) (sym (c .attributes x l))
         at x (no f) =
             let l = not-less f in
-            rw (le-ltb x n l) (sym (is-false (isAttribute t e (attributeRow e x)) (λ i. true≢false (sym (attributes-first right e (attributeRow e n) (attributeRow e x) (omega arith) (omega arith) i) ∙ c .last few))))
+            rw (le-ltb x n l) (sym (is-false (isAttribute t e (attributeRow e x)) (λ i. true≢false (sym (attributes-first right e (attributeRow e n) (attributeRow e x) (omega arith) (omega arith) i) ∙ ended))))
 
         go : (r : ℕ) → Dec (e < r) → attributesIn e a r ≡ isAttribute t e r
         go r (yes l) =
