@@ -1,8 +1,9 @@
 -- The attributes of an element as the positions of a word: they stand right after it, and there are as many as were counted.
-use Prim.Native.Nat.{ℕ, zero, suc, _+_, _-_, _*_, _/_, _%_, _^_, _≤_, _<_}
+use Prim.Native.Nat.{ℕ, zero, suc, _+_, _-_, _≤_, _<_}
 use mathlib.Core.Path.{_≡_, refl, sym, _∙_, ap, fun-ext}
 use mathlib.Core.Bool.{Bool, true, false, _&&_, true≢false}
 use mathlib.Core.List.{List}
+use mathlib.Core.Logic.{⊎-elim}
 use native.Mathlib.Omega.{arith}
 use native.Mathlib.Decide.{decLt}
 use lib.Dec.{ltb}
@@ -13,40 +14,10 @@ use Rattle.instance.specs.NodeRule.{fieldsRight, bad-node, bad-fields, NodesRig
 use Rattle.instance.specs.Width.{maxWidth, howMany, WidthFault, many-attributes}
 use Rattle.instance.proofs.Order.{attribute-kind}
 use Rattle.instance.proofs.Elements.{attribute-later, attributes-first, attributes-differ}
-use Rattle.sets.specs.Bits.{flag, bit}
-use Rattle.sets.proofs.Bits.{two-pow, bit-none, one-shl}
+use Rattle.sets.specs.Collecting.{Collects}
 use Rattle.rules.proofs.Booleans.{is-false, and-right}
 use Rattle.marks.specs.Marks.{attributeRow, attributesIn}
-use Rattle.marks.specs.Tests.{Collects}
 use Rattle.contents.specs.Contents.{Counted}
-
--- all positions below n
-ones-odd : (m : ℕ) → 0 < m → (2 * m - 1) % 2 ≡ 1
-ones-odd m h = omega arith
-
-ones-half : (m : ℕ) → 0 < m → (2 * m - 1) / 2 ≡ m - 1
-ones-half m h = omega arith
-
-pub pow-positive : (n : ℕ) → 0 < 2 ^ n
-pow-positive zero = omega arith
-pow-positive (suc n) = omega (arith, two-pow n, pow-positive n)
-
-bit-ones : (n k : ℕ) → bit (2 ^ n - 1) k ≡ ltb k n
-unfolding bit
-bit-ones zero k = bit-none k ∙ sym (le-ltb k 0 (omega arith))
-bit-ones (suc n) zero = rw (two-pow n) (ap flag (ones-odd (2 ^ n) (pow-positive n))) ∙ sym (lt-ltb 0 (suc n) (omega arith))
-bit-ones (suc n) (suc k) = rw (two-pow n) (ap (λ (x : ℕ). bit x k) (ones-half (2 ^ n) (pow-positive n))) ∙ bit-ones n k ∙ go (decLt k n)
-  where
-    go : Dec (k < n) → ltb k n ≡ ltb (suc k) (suc n)
-    go (yes h) = lt-ltb k n h ∙ sym (lt-ltb (suc k) (suc n) (omega arith))
-    go (no h) = let l = not-less h in le-ltb k n l ∙ sym (le-ltb (suc k) (suc n) (omega arith))
-
-and-true : (b : Bool) → b ≡ (b && true)
-and-true true = refl
-and-true false = refl
-
-pub collects-below : (n : ℕ) → n ≤ maxWidth → Collects (λ k. true) n ((1 * 2 ^ n) % 2 ^ 64 - 1)
-collects-below n h = record { members = λ k. rw (one-shl n (omega arith)) (bit-ones n k ∙ and-true (ltb k n)) }
 
 -- rows that pass a test, one after the other, are as many as they are
 many-from : (test : ℕ → Bool) (a n : ℕ) → ((x : ℕ) → x < n → test (a + x) ≡ true) → n ≤ howMany test (a + n)
@@ -99,11 +70,14 @@ module _ {strings : ℕ} {t : List ℕ} (right : NodesRight strings t) (e : ℕ)
     pub attributes-same : {a : ℕ} → n ≤ maxWidth → Collects (λ k. true) n a → attributesIn e a ≡ isAttribute t e
     attributes-same {a} few w = fun-ext (λ r. go r (decLt e r))
       where
+        ended : isAttribute t e (attributeRow e n) ≡ false
+        ended = ⊎-elim (λ f. f) (λ q. absurd (omega (arith, q))) (c .last)
+
         at : (x : ℕ) → Dec (x < n) → (ltb x n && true) ≡ isAttribute t e (attributeRow e x)
         at x (yes l) = rw (lt-ltb x n l) (sym (c .attributes x l))
         at x (no f) =
             let l = not-less f in
-            rw (le-ltb x n l) (sym (is-false (isAttribute t e (attributeRow e x)) (λ i. true≢false (sym (attributes-first right e (attributeRow e n) (attributeRow e x) (omega arith) (omega arith) i) ∙ c .last few))))
+            rw (le-ltb x n l) (sym (is-false (isAttribute t e (attributeRow e x)) (λ i. true≢false (sym (attributes-first right e (attributeRow e n) (attributeRow e x) (omega arith) (omega arith) i) ∙ ended))))
 
         go : (r : ℕ) → Dec (e < r) → attributesIn e a r ≡ isAttribute t e r
         go r (yes l) =

@@ -11,19 +11,17 @@ use lib.ListN.{length, getD, length-map, List·getD-map}
 use borrow.Author.Tests.{lt-ltb, le-ltb, eqb-true}
 use Rattle.tables.proofs.Numbers.{not-less}
 use Rattle.instance.specs.Nodes.{element, text, nodesOf, kindOf, aOf, isChild}
-use Rattle.instance.specs.NodeRule.{NodesRight}
 use Rattle.instance.specs.Width.{maxWidth, WidthFault}
 use Rattle.instance.specs.Elements.{isElement, childrenOf}
 use Rattle.instance.proofs.RowLists.{listed-row, few-children, child-kinds}
 use Rattle.sets.specs.Bits.{bit}
-use Rattle.rules.specs.Items.{Item, string}
-use Rattle.rules.specs.Items as item
+use Rattle.sets.specs.Collecting.{Collects}
+use Rattle.rules.specs.Items.{Item}
 use Rattle.rules.specs.Job.{itemOf, lookups}
 use Rattle.rules.specs.Spans.{run}
 use Rattle.rules.proofs.Runs.{kept, run-add, run-list}
 use Rattle.marks.specs.Given.{itemAt}
-use Rattle.marks.specs.Tests.{Collects}
-use Rattle.contents.specs.Contents.{Holds, Children, itemWord, ofKind, Itemized, Contents}
+use Rattle.contents.specs.Contents.{Begins, itemWord, ofKind, Itemized, Contents}
 
 -- a run by what stands at its positions
 run-same : {A : Type 0} (it other : ℕ → A) (K J : ℕ → Bool) (i n : ℕ) → ((k : ℕ) → i ≤ k → k < i + n → K k ≡ J k) → ((k : ℕ) → i ≤ k → k < i + n → it k ≡ other k) → run it K i n ≡ run other J i n
@@ -53,26 +51,23 @@ member-at [] k h = absurd (omega arith)
 member-at (x ∷ l) zero h = List·Memᴰ·head refl
 member-at (x ∷ l) (suc k) h = List·Memᴰ·tail (member-at l k (omega arith))
 
+-- an element that is not too wide has few children
+pub few-listed : {t before rows : List ℕ} {e n : ℕ} → e < nodesOf t → kindOf t e ≡ element → ¬ WidthFault t e → Begins before rows (childrenOf t e) n → n ≤ maxWidth
+few-listed h k narrow c = rw (c .count) (few-children h k narrow)
+
 -- what was collected
-pub collected-contents : {strings : ℕ} {t rows items : List ℕ} {e n texts elements : ℕ} → NodesRight strings t → e < nodesOf t → kindOf t e ≡ element → ¬ WidthFault t e → maxWidth ≤ length rows
-    → Children t e rows n (nodesOf t) → Itemized t rows items n → (n ≤ maxWidth → Collects (ofKind t rows text) n texts) → (n ≤ maxWidth → Collects (ofKind t rows element) n elements)
-    → Contents t e items n texts elements
-collected-contents {strings} {t} {rows} {items} {e} {n} {texts} {elements} right h k narrow room c i ts es = record {
-  count = held .count;
+pub collected-contents : {t before rows items : List ℕ} {e n texts elements : ℕ} → n ≤ maxWidth → maxWidth ≤ length before → Begins before rows (childrenOf t e) n → Itemized t rows items n
+    → Collects (ofKind t rows text) n texts → Collects (ofKind t rows element) n elements → Contents t e items n texts elements
+collected-contents {t} {before} {rows} {items} {e} {n} {texts} {elements} few room c i ts es = record {
+  count = c .count;
   few = few;
-  each = λ j m. i .each j m (omega (arith, few)) ∙ ap (itemWord t) (same j m);
-  texts-at = λ j. ts few .members j ∙ kinds text j (decLt j n);
-  elements-at = λ j. es few .members j ∙ kinds element j (decLt j n);
+  each = λ j m. i .each j m (omega (arith, c .size)) ∙ ap (itemWord t) (same j m);
+  texts-at = λ j. ts .members j ∙ kinds text j (decLt j n);
+  elements-at = λ j. es .members j ∙ kinds element j (decLt j n);
 }
   where
-    held : Holds rows (childrenOf t e) n
-    held = c strings right
-
-    few : n ≤ maxWidth
-    few = rw (held .count) (few-children h k narrow)
-
     same : (j : ℕ) → j < n → getD rows j 0 ≡ getD (childrenOf t e) j 0
-    same j m = held .each j m (let f = few in omega arith)
+    same j m = c .each j m (omega (arith, few, room))
 
     kinds : (kind j : ℕ) → Dec (j < n) → (ltb j n && ofKind t rows kind j) ≡ (ltb j n && eqb (kindOf t (getD (childrenOf t e) j 0)) kind)
     kinds kind j (yes m) = rw (same j m)

@@ -1,30 +1,36 @@
 -- What is collected of an element: how many attributes it has, and its children.
-use Prim.Native.Nat.{ℕ, _≤_, _<_}
+use Prim.Native.Nat.{ℕ, suc, _≤_, _<_}
 use mathlib.Core.Path.{_≡_}
 use mathlib.Core.Bool.{Bool, true, false, cond, _&&_}
 use mathlib.Core.List.{List}
+use mathlib.Core.Logic.{_⊎_}
 use lib.Dec.{eqb, ltb}
 use lib.ListN.{length, getD}
-use Rattle.instance.specs.Nodes.{text, kindOf, aOf, isChild, isAttribute}
+use Rattle.instance.specs.Nodes.{text, nodesOf, kindOf, aOf, isAttribute}
 use Rattle.instance.specs.NodeRule.{NodesRight}
-use Rattle.instance.specs.Elements.{rowsWhere, isElement, childrenOf}
+use Rattle.instance.specs.Elements.{isElement, childrenOf}
 use Rattle.instance.specs.Width.{maxWidth}
 use Rattle.sets.specs.Bits.{bit}
 use Rattle.marks.specs.Marks.{attributeRow}
 
--- n rows right after element e are its attributes, and the next is none, unless there are more than an element may have
+-- the n rows right after element e are its attributes, and the next is none of them; no more are counted than one above what an element may have
 pub record Counted (t : List ℕ) (e n : ℕ) : Type 0 where
   pub attributes : (x : ℕ) → x < n → isAttribute t e (attributeRow e x) ≡ true
-  pub last : n ≤ maxWidth → isAttribute t e (attributeRow e n) ≡ false
+  pub few : n ≤ suc maxWidth
+  pub last : (isAttribute t e (attributeRow e n) ≡ false) ⊎ (n ≡ suc maxWidth)
 
--- the first n of the words are the members of l, as far as there are words
-pub record Holds (words l : List ℕ) (n : ℕ) : Type 0 where
+-- e is a row of a table whose rows keep their rule, beside some number of strings
+pub record RightRow (t : List ℕ) (e : ℕ) : Type 0 where
+  pub strings : ℕ
+  pub right : NodesRight strings t
+  pub row : e < nodesOf t
+
+-- the first n words become the members of l, as far as there are words; the words after them are as they were
+pub record Begins (before after l : List ℕ) (n : ℕ) : Type 0 where
+  pub size : length after ≡ length before
   pub count : n ≡ length l
-  pub each : (k : ℕ) → k < n → k < length words → getD words k 0 ≡ getD l k 0
-
--- the first n words are the rows of e's children that stand before row r, where the rows keep their rule
-abbrev pub Children : (t : List ℕ) (e : ℕ) (words : List ℕ) (n r : ℕ) → Type 0
-Children t e words n r = (strings : ℕ) → NodesRight strings t → Holds words (rowsWhere (isChild t e) r) n
+  pub each : (k : ℕ) → k < n → k < length before → getD after k 0 ≡ getD l k 0
+  pub rest : (k : ℕ) → n ≤ k → getD after k 0 ≡ getD before k 0
 
 -- an item as a word: a text by its string, an element by its row
 abbrev pub itemWord : List ℕ → ℕ → ℕ

@@ -1,16 +1,16 @@
 -- Sets that are collected position by position: the laws of a loop that tests one position after the other.
-use mathlib.Core.Path.{_≡_, refl, sym, ap}
+use mathlib.Core.Path.{_≡_, refl, sym, ap, _∙_}
 use mathlib.Core.Bool.{Bool, true, false, _&&_, _||_}
-use Prim.Native.Nat.{ℕ, _+_, _^_, _<_}
+use Prim.Native.Nat.{ℕ, zero, suc, _+_, _-_, _*_, _/_, _%_, _^_, _<_}
 use native.Mathlib.Omega.{arith}
 use native.Mathlib.Decide.{decLt, ℕ-discrete}
 use lib.Bits.{bitOr}
 use lib.Dec.{eqb, ltb}
 use borrow.Author.Tests.{lt-ltb, le-ltb, eq-eqb, ne-eqb}
 use Rattle.tables.proofs.Numbers.{not-less}
-use Rattle.sets.specs.Bits.{bit}
+use Rattle.sets.specs.Bits.{positions, flag, bit}
 use Rattle.sets.specs.Collecting.{Added, Collects}
-use Rattle.sets.proofs.Bits.{bit-or, bit-none, bit-pow}
+use Rattle.sets.proofs.Bits.{two-pow, bit-or, bit-none, bit-pow, one-shl}
 
 -- ---- one position more, or none
 
@@ -53,3 +53,32 @@ collects-more {test} {n} {w} c e a = record { members = λ k. rw (a .members k, 
 
 pub collected : {test : ℕ → Bool} {n w k : ℕ} → Collects test n w → k < n → bit w k ≡ test k
 collected {n = n} {k = k} c h = rw (lt-ltb k n h) at (c .members k)
+
+-- ---- all positions below n
+
+ones-odd : (m : ℕ) → 0 < m → (2 * m - 1) % 2 ≡ 1
+ones-odd m h = omega arith
+
+ones-half : (m : ℕ) → 0 < m → (2 * m - 1) / 2 ≡ m - 1
+ones-half m h = omega arith
+
+pub pow-positive : (n : ℕ) → 0 < 2 ^ n
+pow-positive zero = omega arith
+pow-positive (suc n) = omega (arith, two-pow n, pow-positive n)
+
+bit-ones : (n k : ℕ) → bit (2 ^ n - 1) k ≡ ltb k n
+unfolding bit
+bit-ones zero k = bit-none k ∙ sym (le-ltb k 0 (omega arith))
+bit-ones (suc n) zero = rw (two-pow n) (ap flag (ones-odd (2 ^ n) (pow-positive n))) ∙ sym (lt-ltb 0 (suc n) (omega arith))
+bit-ones (suc n) (suc k) = rw (two-pow n) (ap (λ (x : ℕ). bit x k) (ones-half (2 ^ n) (pow-positive n))) ∙ bit-ones n k ∙ go (decLt k n)
+  where
+    go : Dec (k < n) → ltb k n ≡ ltb (suc k) (suc n)
+    go (yes h) = lt-ltb k n h ∙ sym (lt-ltb (suc k) (suc n) (omega arith))
+    go (no h) = let l = not-less h in le-ltb k n l ∙ sym (le-ltb (suc k) (suc n) (omega arith))
+
+with-true : (b : Bool) → b ≡ (b && true)
+with-true true = refl
+with-true false = refl
+
+pub collects-below : (n : ℕ) → n < positions → Collects (λ k. true) n ((1 * 2 ^ n) % 2 ^ 64 - 1)
+collects-below n h = record { members = λ k. rw (one-shl n h) (bit-ones n k ∙ with-true (ltb k n)) }

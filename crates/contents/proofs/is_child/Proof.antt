@@ -1,10 +1,6 @@
 use borrow.Author.Needs.{needs}
 use Rattle.contents.proofs.is_child.Statement.{statement}
 use Rattle.contents.proofs.is_child.Tie as tie
-use Rattle.contents.proofs.is_child.Reads as reads
-use Rattle.contents.proofs.is_child.Lts as lts
-use Rattle.instance.proofs.kind.Reads as kind-reads
-use Rattle.instance.proofs.parent.Reads as parent-reads
 
 kind-requires : tie.Need-kind-requires
 kind-requires c κs = search needs

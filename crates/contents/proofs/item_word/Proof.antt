@@ -2,10 +2,6 @@ use borrow.Author.Tests.{eq-eqb, ne-eqb}
 use borrow.Author.Needs.{needs}
 use Rattle.contents.proofs.item_word.Statement.{statement}
 use Rattle.contents.proofs.item_word.Tie as tie
-use Rattle.contents.proofs.item_word.Reads as reads
-use Rattle.contents.proofs.item_word.Lts as lts
-use Rattle.instance.proofs.field_a.Reads as field-a-reads
-use Rattle.instance.proofs.kind.Reads as kind-reads
 
 kind-requires : tie.Need-kind-requires
 kind-requires c κs = search needs

@@ -1,3 +1,4 @@
+-- The invariant: the first k rows are items.
 use denote.Ref.{now}
 use borrow.Author.Needs.{needs}
 use Rattle.contents.proofs.Lists.{itemized-none, itemized-more}
@@ -7,11 +8,6 @@ use mathlib.Core.Path.{_≡_, _∙_, ap}
 use Prim.Native.Nat.{_-_, _≤_}
 use Rattle.contents.proofs.to_items.Statement.{statement}
 use Rattle.contents.proofs.to_items.Tie as tie
-use Rattle.contents.proofs.to_items.Reads as reads
-use Rattle.contents.proofs.to_items.Lts as lts
-use Rattle.contents.proofs.item_word.Reads as item-word-reads
-use Rattle.contents.proofs.store.Reads as store-reads
-use Rattle.tables.proofs.word.Reads as word-reads
 
 abbrev Inv-loop : tie.InvT-loop
 Inv-loop instance rows₀ n k₀ rows k = (k ≤ n) × Itemized instance rows₀ rows k
@@ -31,8 +27,11 @@ word-requires c κs = search needs
 item-word-requires : tie.Need-item-word-requires Inv-loop μ-loop
 item-word-requires c κs = search needs
 
-store-requires : tie.Need-store-requires Inv-loop μ-loop
-store-requires c κs = search needs
+cast-put-u32 : tie.Need-cast-put-u32 Inv-loop μ-loop
+cast-put-u32 c = search needs
+
+put-u32-requires : tie.Need-put-u32-requires Inv-loop μ-loop
+put-u32-requires c κs = search needs
 
 add-k : tie.Need-add-k Inv-loop μ-loop
 add-k c = search needs
@@ -41,7 +40,8 @@ loop-less : tie.Need-loop-less Inv-loop μ-loop
 loop-less c = search needs
 
 loop-again : tie.Need-loop-again Inv-loop μ-loop
-loop-again c = (omega arith, itemized-more (now (c .before .before .before .before .before .before .before .before .before .before .before .args .instance)) (c .before .before .store .ensures) (c .before .before .before .before .item-word .ensures ∙ ap (itemWord (now (c .before .before .before .before .before .before .before .before .before .before .before .args .instance))) (c .before .before .before .before .before .word .ensures)) (c .before .before .before .before .before .before .before .before .loop .inv .1))
+loop-again c = let t = now (c .before .before .before .before .before .before .before .before .before .before .before .args .instance) in
+    (omega arith, itemized-more t (c .before .before .put-u32 .ensures) (c .before .before .before .before .item-word .ensures ∙ ap (itemWord t) (c .before .before .before .before .before .word .ensures)) (c .before .before .before .before .before .before .before .before .loop .inv .1))
 
 same-length : tie.Need-same-length Inv-loop μ-loop
 same-length c = search needs
@@ -59,7 +59,8 @@ to-items-spec =
     cast-word
     word-requires
     item-word-requires
-    store-requires
+    cast-put-u32
+    put-u32-requires
     add-k
     loop-less
     loop-again
