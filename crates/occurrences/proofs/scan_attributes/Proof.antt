@@ -8,8 +8,8 @@ use Rattle.occurrences.proofs.Clashes.{attribute-row}
 use Rattle.occurrences.specs.Attributes.{AttributeFault}
 use Rattle.schema.proofs.RowLaws.{few-rows}
 use Rattle.schema.specs.Rows.{rowsOf}
-use Rattle.occurrences.proofs.first_attribute.Statement.{statement}
-use Rattle.occurrences.proofs.first_attribute.Tie as tie
+use Rattle.occurrences.proofs.scan_attributes.Statement.{statement}
+use Rattle.occurrences.proofs.scan_attributes.Tie as tie
 
 abbrev Inv-loop : tie.InvT-loop
 Inv-loop schema repeated rows r₀ r = (r ≤ rowsOf schema) × Clear (AttributeFault schema) r
@@ -44,8 +44,8 @@ loop-again c = (omega (arith, c .before .before .loop-test .taken), below-more _
 returns-2 : tie.Need-returns-2 Inv-loop μ-loop
 returns-2 c = finds-none _ (c .before .loop .inv .1) (λ k f. omega (arith, attribute-row (c .before .before .before .before .pre .0) f))
 
-pub first-attribute-spec : {M : Type 1} → statement M
-first-attribute-spec =
+pub scan-attributes-spec : {M : Type 1} → statement M
+scan-attributes-spec =
     tie.close
     (tie.spec
     Inv-loop

@@ -11,8 +11,8 @@ use Rattle.occurrences.specs.Interleaves.{InterleaveFault}
 use Rattle.occurrences.specs.Occurrences.{Compared}
 use Rattle.schema.proofs.RowLaws.{few-rows}
 use Rattle.schema.specs.Rows.{rowsOf}
-use Rattle.occurrences.proofs.first_interleave.Statement.{statement}
-use Rattle.occurrences.proofs.first_interleave.Tie as tie
+use Rattle.occurrences.proofs.scan_interleaves.Statement.{statement}
+use Rattle.occurrences.proofs.scan_interleaves.Tie as tie
 
 abbrev Inv-loop : tie.InvT-loop
 Inv-loop schema compared₀ rows r₀ compared r = (r ≤ rowsOf schema) × Clear (InterleaveFault schema) r × Compared schema compared × (length compared ≡ length compared₀)
@@ -53,8 +53,8 @@ same-length-2 c = c .before .loop .inv .3
 returns-2 : tie.Need-returns-2 Inv-loop μ-loop
 returns-2 c = finds-none _ (c .before .loop .inv .1) (λ k f. omega (arith, interleave-row (c .before .before .before .before .pre .0) f))
 
-pub first-interleave-spec : {M : Type 1} → statement M
-first-interleave-spec =
+pub scan-interleaves-spec : {M : Type 1} → statement M
+scan-interleaves-spec =
     tie.close
     (tie.spec
     Inv-loop
