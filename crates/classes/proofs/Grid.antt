@@ -9,13 +9,14 @@ use native.Mathlib.Omega.{arith}
 use lib.Dec.{ltb}
 use lib.ListN.{length, List·getD-eq-default}
 use borrow.Author.Tests.{ltb-true}
+use Rattle.tables.proofs.Booleans.{and-both}
 use Rattle.schema.specs.Relations.{Child}
 use Rattle.schema.specs.RowRule.{maxRows}
 use Rattle.schema.specs.Rows.{rowsOf, kindOf}
-use Rattle.schema.proofs.Fields.{and-both}
+use Rattle.schema.specs.Marks.{Marked}
 use Rattle.classes.specs.Least.{Common, Before, Least}
 use Rattle.classes.specs.Membership.{holds, inClass}
-use Rattle.classes.specs.Search.{markedRows, Marked, Stands, Candidates, Covers, Sound, TriedAll}
+use Rattle.classes.specs.Search.{markedRows, Stands, Candidates, Covers, Sound, TriedAll}
 use Rattle.classes.specs.declared.Found.{Found}
 use Rattle.classes.specs.declared.Found.the-variants.{Name, Nothing}
 use Rattle.classes.specs.declared.Part.the-variants.{Namespace, Local}

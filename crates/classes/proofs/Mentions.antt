@@ -7,12 +7,13 @@ use native.Mathlib.Omega.{arith}
 use lib.ListN.{length, set}
 use borrow.Author.Count.{below-more}
 use borrow.Author.Tests.{ne-eqb}
-use Rattle.classes.specs.Search.{markedRows, Marked, mentionOf, leastOf, Listed, Added, Mentioned, Fresh, Stands, Candidates}
+use Rattle.schema.specs.Marks.{Marked}
+use Rattle.schema.proofs.Marks.{marked-row}
+use Rattle.classes.specs.Search.{markedRows, mentionOf, leastOf, Listed, Added, Mentioned, Fresh, Stands, Candidates}
 use Rattle.classes.specs.declared.Mention.the-variants.{Of, NoMention}
 use Rattle.classes.specs.declared.Part.{Part}
 use Rattle.classes.specs.declared.Part.the-variants.{Namespace, Local}
 use Rattle.classes.proofs.Lists.{listed-dec, listed-kept, listed-last}
-use Rattle.classes.proofs.Marks.{marked-within}
 
 pub least-small : (part : Part) → leastOf part ≤ 1
 least-small Namespace = omega arith
@@ -63,7 +64,7 @@ module _ {s m : List ℕ} {part : Part} where
   pub mentions-done : {xs : List ℕ} {n r : ℕ} → Mentioning s m part xs n r → length m ≡ markedRows → markedRows ≤ r → Mentioned s m part xs n
   mentions-done a e h = record {
     most = omega (arith, a .most, a .end);
-    all = λ q v k f. a .all q (omega (arith, marked-within m q k)) v k f;
+    all = λ q v k f. a .all q (omega (arith, marked-row m q k)) v k f;
   }
 
   -- v stands for itself if it is listed; if not, the least number that is not listed stands for it, and neither is mentioned

@@ -1,17 +1,13 @@
 -- ISO/IEC 19757-2, 9.2: which names are in a class, a theorem for each rule. As equations they also say that no other name is. The parts stand at smaller rows.
 use Prim.Native.Nat.{ℕ, _<_}
 use mathlib.Core.Path.{_≡_, refl, _∙_, ap, ap₂}
-use mathlib.Core.Bool.{Bool, true, false, not, _&&_, _||_}
+use mathlib.Core.Bool.{Bool, true, not, _&&_, _||_, or-true}
 use mathlib.Core.List.{List}
 use lib.Dec.{eqb}
 use Rattle.schema.specs.Views.{anyName, anyNameExcept, nsName, nsNameExcept, name, nameChoice, classOf}
 use Rattle.schema.proofs.Falling.{upto-below}
 use Rattle.classes.specs.Membership.{holds}
 use Rattle.classes.proofs.Holds.{step}
-
-or-true : (x : Bool) → (x || true) ≡ true
-or-true true = refl
-or-true false = refl
 
 module _ (s : List ℕ) (u l c : ℕ) where
   -- (anyName 1)

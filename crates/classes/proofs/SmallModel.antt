@@ -13,13 +13,14 @@ use Rattle.schema.specs.Kinds.{none}
 use Rattle.schema.specs.Relations.{Child, by-a, by-b}
 use Rattle.schema.specs.Rows.{kindOf, aOf, bOf, shapeOf, sortOf, isClass, names}
 use Rattle.schema.proofs.Falling.{upto-below, upto-above}
+use Rattle.schema.specs.Marks.{Marked}
+use Rattle.schema.proofs.Marks.{marked-row}
 use Rattle.classes.specs.Membership.{holds, inClass}
-use Rattle.classes.specs.Search.{Marked, mentionOf}
+use Rattle.classes.specs.Search.{mentionOf}
 use Rattle.classes.specs.declared.Mention.the-variants.{Of}
 use Rattle.classes.specs.declared.Part.{Part}
 use Rattle.classes.specs.declared.Part.the-variants.{Namespace, Local}
 use Rattle.classes.proofs.Holds.{step, Read, holds-16, holds-17, holds-18, holds-19, holds-other}
-use Rattle.classes.proofs.Marks.{marked-within}
 
 -- a row of another sort is no class, and holds nothing
 class-kind : (k j : ℕ) → isClass (shapeOf j .sort) ≡ true → isClass (shapeOf k .sort) ≡ false → k ≡ j → ⊥
@@ -64,7 +65,7 @@ module _ (s m : List ℕ) (u l u′ l′ : ℕ) where
         read = record { kind = refl; first = refl; second = refl }
 
         fits : c ≤ none
-        fits = omega (arith, marked-within m c h)
+        fits = omega (arith, marked-row m c h)
 
         at : (x : ℕ) → (x < c → isClass (sortOf s x) ≡ true → Child s c x) → upto (step s u l) c x ≡ upto (step s u′ l′) c x
         at x child = below c x (same x) (λ k e. closed c x h (child k e))

@@ -8,21 +8,23 @@ use native.Mathlib.Omega.{arith}
 use lib.Dec.{ltb, eqb}
 use lib.ListN.{length, replicate, length-replicate}
 use borrow.Author.Tests.{eqb-true, ne-eqb, ltb-true}
+use Rattle.tables.proofs.Booleans.{and-both}
 use Rattle.schema.specs.Kinds.{none}
 use Rattle.schema.specs.Rows.{rowsOf, kindOf, aOf, bOf, shapeOf}
 use Rattle.schema.specs.Relations.{Child}
 use Rattle.schema.specs.RowRule.{RowsRight}
 use Rattle.schema.proofs.Children.{child-less}
-use Rattle.schema.proofs.Fields.{and-both, both-fields}
+use Rattle.schema.proofs.Fields.{both-fields}
 use Rattle.schema.proofs.RowLaws.{right-size, few-rows, in-table}
+use Rattle.schema.specs.Marks.{Marked}
+use Rattle.schema.proofs.Marks.{marked-row}
 use Rattle.classes.specs.Membership.{holds, inClass}
 use Rattle.classes.specs.Least.{Common}
-use Rattle.classes.specs.Search.{Marked, mentionOf}
+use Rattle.classes.specs.Search.{mentionOf}
 use Rattle.classes.specs.declared.Mention.the-variants.{Of, NoMention}
 use Rattle.classes.specs.declared.Part.{Part}
 use Rattle.classes.specs.declared.Part.the-variants.{Namespace, Local}
 use Rattle.classes.proofs.Holds.{holds-other}
-use Rattle.classes.proofs.Marks.{marked-within}
 use Rattle.classes.proofs.SmallModel.{Alike, same-in-class}
 
 -- v is not above u, and no number below n tells them apart
@@ -59,8 +61,8 @@ module _ {strings : ℕ} {s : List ℕ} (right : RowsRight strings s) where
   abbrev marks : List ℕ
   marks = replicate (rowsOf s) 1
 
-  marked-row : (r : ℕ) → Marked marks r → r < rowsOf s
-  marked-row r h = rw (length-replicate {A = ℕ} (rowsOf s) 1) at (marked-within marks r h)
+  in-marks : (r : ℕ) → Marked marks r → r < rowsOf s
+  in-marks r h = rw (length-replicate {A = ℕ} (rowsOf s) 1) at (marked-row marks r h)
 
   -- the numbers that a row mentions are below the number of strings
   one-of : (k a x : ℕ) → cond (eqb k 17) (Of a) (cond (eqb k 18) (Of a) NoMention) ≡ Of x → (k ≡ 17 → a < strings) → (k ≡ 18 → a < strings) → x < strings
@@ -86,7 +88,7 @@ module _ {strings : ℕ} {s : List ℕ} (right : RowsRight strings s) where
       go false i e = let z : _≡_ {A = ℕ} 0 1 = cc in absurd (omega arith)
 
   no-mark-tells : (part : Part) (u v : ℕ) → Near strings u v → Alike s marks part u v
-  no-mark-tells part u v n r x h e = n .alike x (mentioned part r x (marked-row r h) e)
+  no-mark-tells part u v n r x h e = n .alike x (mentioned part r x (in-marks r h) e)
 
   -- what holds a name is a row
   class-row : (u l c : ℕ) → inClass s u l c ≡ true → c < rowsOf s
@@ -101,7 +103,7 @@ module _ {strings : ℕ} {s : List ℕ} (right : RowsRight strings s) where
       sym (same-in-class s marks u l v k closed fits (no-mark-tells Namespace u v n) (no-mark-tells Local l k m) c (ones (rowsOf s) c (class-row u l c h)) p (m .positive p)) ∙ h
     where
       closed : (p r : ℕ) → Marked marks p → Child s p r → Marked marks r
-      closed p r i c = ones (rowsOf s) r (let a = child-less c in let b = marked-row p i in omega arith)
+      closed p r i c = ones (rowsOf s) r (let a = child-less c in let b = in-marks p i in omega arith)
 
       fits : length marks ≤ none
       fits = rw (length-replicate {A = ℕ} (rowsOf s) 1) (let a = few-rows (right-size right) in omega arith)

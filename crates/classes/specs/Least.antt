@@ -4,8 +4,6 @@ use mathlib.Core.Path.{_≡_}
 use mathlib.Core.Bool.{true}
 use mathlib.Core.Logic.{_⊎_}
 use mathlib.Core.List.{List}
-use Rattle.schema.specs.Rows.{rowsOf}
-use Rattle.schema.specs.RowRule.{maxRows}
 use Rattle.classes.specs.Membership.{inClass}
 use Rattle.classes.specs.declared.Found.{Found}
 use Rattle.classes.specs.declared.Found.the-variants.{Name, Nothing}
@@ -22,8 +20,3 @@ Before u l v k = (u < v) ⊎ ((u ≡ v) × (l ≤ k))
 abbrev pub Least : List ℕ → ℕ → ℕ → Found → Type 0
 Least s c d (Name u l) = Common s c d u l × ((v k : ℕ) → Common s c d v k → Before u l v k)
 Least s c d Nothing = (u l : ℕ) → ¬ Common s c d u l
-
--- what the search answers: the least name, and nothing at all for a table of more rows than a schema may have
-pub record LeastAnswer (s : List ℕ) (c d : ℕ) (r : Found) : Type 0 where
-  pub least : rowsOf s ≤ maxRows → Least s c d r
-  pub refused : maxRows < rowsOf s → r ≡ Nothing

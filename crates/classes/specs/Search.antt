@@ -3,12 +3,13 @@ use Prim.Native.Nat.{ℕ, _+_, _≤_, _<_}
 use mathlib.Core.Path.{_≡_}
 use mathlib.Core.Bool.{Bool, true, false, cond}
 use mathlib.Core.List.{List}
-use lib.ListN.{getD, set}
+use lib.ListN.{getD}
 use lib.Dec.{eqb}
 use Rattle.schema.specs.Kinds as kind
+use Rattle.schema.specs.Marks.{Marked}
 use Rattle.schema.specs.Relations.{Child}
 use Rattle.schema.specs.RowRule.{maxRows}
-use Rattle.schema.specs.Rows.{kindOf, aOf, bOf, childA, childB}
+use Rattle.schema.specs.Rows.{kindOf, aOf, bOf}
 use Rattle.classes.specs.Least.{Common, Before}
 use Rattle.classes.specs.declared.Found.{Found}
 use Rattle.classes.specs.declared.Found.the-variants.{Name, Nothing}
@@ -20,13 +21,6 @@ use Rattle.classes.specs.declared.Part.the-variants.{Namespace, Local}
 -- the rows of a table, and one that breaks off at its end
 abbrev pub markedRows : ℕ
 markedRows = maxRows + 1
-
-abbrev pub Marked : List ℕ → ℕ → Type 0
-Marked m r = getD m r 0 ≡ 1
-
--- the marks once the children of a marked row are marked too
-abbrev pub passed : List ℕ → ℕ → List ℕ → List ℕ
-passed s r m = cond (eqb (getD m r 0) 1) (set (set m (childA s r) 1) (childB s r) 1) m
 
 -- each row that was marked still is, and each child of a marked row is marked
 pub record Closure (s m m′ : List ℕ) : Type 0 where

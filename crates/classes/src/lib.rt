@@ -1,13 +1,15 @@
 // Name classes: membership, and the least name that two classes have in common.
 ghost use mathlib.Core.Path.{_≡_};
 ghost use Prim.Native.Nat.{_+_, _≤_, _<_};
-ghost use lib.ListN.{length, set};
+ghost use lib.ListN.{length};
 ghost use Rattle.tables.specs.Answers.{Decides};
 ghost use Rattle.schema.specs.Falling.{upto};
+ghost use Rattle.schema.specs.RowRule.{maxRows};
+ghost use Rattle.schema.specs.Rows.{rowsOf};
 ghost use Rattle.schema.specs.Views.{classOf};
 ghost use Rattle.classes.specs.Membership.{memberBy, holds, inClass};
-ghost use Rattle.classes.specs.Least.{LeastAnswer};
-ghost use Rattle.classes.specs.Search.{markedRows, passed, Closure, mentionOf, leastOf, Listed, Added, Mentioned, Fresh, Candidates, Earlier, TriedName, TriedLocals, TriedAll};
+ghost use Rattle.classes.specs.Least.{Least};
+ghost use Rattle.classes.specs.Search.{markedRows, Closure, mentionOf, leastOf, Listed, Added, Mentioned, Fresh, Candidates, Earlier, TriedName, TriedLocals, TriedAll};
 
 // A name, or none.
 pub enum Found {
@@ -41,28 +43,28 @@ fn class_holds(schema: &[u32], row: u32, namespace: u32, local: u32) -> bool
     let a = schema::field_a(schema, row);
     let b = schema::field_b(schema, row);
     match kind {
-        schema::ANY_NAME => !except_holds(schema, row, a, namespace, local),
+        schema::ANY_NAME => !smaller_holds(schema, row, a, namespace, local),
         schema::NS_NAME => {
             if namespace == a {
-                !except_holds(schema, row, b, namespace, local)
+                !smaller_holds(schema, row, b, namespace, local)
             } else {
                 false
             }
         }
         schema::NAME => { if namespace == a { local == b } else { false } }
         schema::NAME_CHOICE => {
-            if except_holds(schema, row, a, namespace, local) {
+            if smaller_holds(schema, row, a, namespace, local) {
                 true
             } else {
-                except_holds(schema, row, b, namespace, local)
+                smaller_holds(schema, row, b, namespace, local)
             }
         }
         _ => false,
     }
 }
 
-// Whether a class that stands at a smaller row than its parent holds a name. A field that is no smaller row, as NONE, holds none.
-fn except_holds(schema: &[u32], parent: u32, row: u32, namespace: u32, local: u32) -> bool
+// Whether the class at a smaller row than its parent, an except or a member of a choice, holds a name. A field that is no smaller row, as NONE, holds none.
+fn smaller_holds(schema: &[u32], parent: u32, row: u32, namespace: u32, local: u32) -> bool
     ensures { λ r. ⌜ r ≡ upto (λ row below. memberBy below namespace local (classOf (now (schema .entry)) row)) parent row ⌝ }
 {
     if row < parent {
@@ -82,26 +84,6 @@ pub fn in_class(schema: &[u32], row: u32, namespace: u32, local: u32) -> bool
     class_holds(schema, row, namespace, local)
 }
 
-// A row past the marks is left alone.
-fn mark(marks: &mut [u32], row: u32)
-    ensures { λ _. ⌜ now (marks .exit) ≡ set (now (marks .entry)) row 1 ⌝ }
-{
-    let at = row as usize;
-    if at < marks.len() {
-        marks[at] = 1;
-    }
-}
-
-// Marks the children of a row if it is marked itself.
-fn mark_children(schema: &[u32], marks: &mut [u32], row: u32)
-    ensures { λ _. ⌜ now (marks .exit) ≡ passed (now (schema .entry)) row (now (marks .entry)) ⌝ }
-{
-    if tables::word(marks, row as usize) == 1 {
-        mark(marks, schema::child_a(schema, row));
-        mark(marks, schema::child_b(schema, row));
-    }
-}
-
 // Marks every row below a marked one.
 fn mark_below(schema: &[u32], marks: &mut [u32])
     requires { ⌜ length (now marks) ≡ markedRows ⌝ }
@@ -110,7 +92,8 @@ fn mark_below(schema: &[u32], marks: &mut [u32])
     let mut row = MARKED_ROWS;
     while 0 < row {
         row -= 1;
-        mark_children(schema, marks, row);
+        let on = tables::word(marks, row as usize) == 1;
+        schema::mark_children(schema, marks, row, on, on);
     }
 }
 
@@ -320,14 +303,12 @@ fn try_names(
 
 // The least name that the classes at two rows have in common.
 pub fn least_common(schema: &[u32], first: u32, second: u32) -> Found
-    ensures { λ r. ⌜ LeastAnswer (now (schema .entry)) first second r ⌝ }
+    requires { ⌜ rowsOf (now schema) ≤ maxRows ⌝ }
+    ensures { λ r. ⌜ Least (now (schema .entry)) first second r ⌝ }
 {
-    if schema::MAX_ROWS < schema.len() / 3 {
-        return Found::Nothing;
-    }
     let mut marks = [0u32; MARKED_ROWS as usize];
-    mark(&mut marks, first);
-    mark(&mut marks, second);
+    tables::put_u32(&mut marks, first as usize, 1);
+    tables::put_u32(&mut marks, second as usize, 1);
     mark_below(schema, &mut marks);
     let mut namespaces = [0u32; MAX_CANDIDATES];
     let n = list_candidates(schema, &marks, Part::Namespace, &mut namespaces);

@@ -79,7 +79,6 @@ count-none s d f = go (isDefinition s d) refl
     go true e = absurd (f (definition-kind s d e))
     go false e = refl
 
--- at most one row more is counted
 -- the definitions as a list of their own
 pub definitions-part : {s words : List ℕ} {n : ℕ} → n ≤ length words → Definitions s words n → Definitions s (take n words) (length (take n words))
 definitions-part {s} {words} {n} l d = rw (length-take-le n words l) (record {

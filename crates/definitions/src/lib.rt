@@ -17,18 +17,12 @@ fn definition_count(schema: &[u32], d: u32) -> u32
     0
 }
 
-// The rows of the definitions, in rising order, and how many there are; nothing is written where there is not room for every row.
+// The rows of the definitions at the front of rows, in rising order, and how many there are; the words after them may be any.
 pub fn definitions(schema: &[u32], rows: &mut [u32]) -> u32
-    ensures { λ n. ⌜ (rowsOf (now (schema .entry)) ≤ maxRows → maxRows ≤ length (now (rows .entry)) → Definitions (now (schema .entry)) (now (rows .exit)) n) ⌝ }
-    ensures few { λ n. ⌜ n ≤ maxRows ⌝ }
+    requires { ⌜ (rowsOf (now schema) ≤ maxRows) × (maxRows ≤ length (now rows)) ⌝ }
+    ensures { λ n. ⌜ Definitions (now (schema .entry)) (now (rows .exit)) n ⌝ }
 {
     let all = schema.len() / 3;
-    if schema::MAX_ROWS < all {
-        return 0;
-    }
-    if rows.len() < schema::MAX_ROWS {
-        return 0;
-    }
     let mut n: u32 = 0;
     let mut d: u32 = 0;
     while (d as usize) < all {

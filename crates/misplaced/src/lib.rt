@@ -4,10 +4,10 @@ ghost use mathlib.Core.Path.{_≡_};
 ghost use Prim.Native.Nat.{_≤_};
 ghost use lib.ListN.{length};
 ghost use Rattle.tables.specs.Answers.{Decides, Finds};
-ghost use Rattle.schema.specs.RowRule.{maxRows};
+ghost use Rattle.schema.specs.RowRule.{maxRows, SizedFault};
 ghost use Rattle.schema.specs.Rows.{rowsOf};
-ghost use Rattle.schema.specs.Bounded.{Bounded};
-ghost use Rattle.places.specs.Marks.{Marked, Marks, Adds, Fits, ChildThat};
+ghost use Rattle.schema.specs.Marks.{Marked, Adds};
+ghost use Rattle.places.specs.Marks.{Marks, Fits, ChildThat};
 ghost use Rattle.places.specs.Places.{holdsWhole, emptyFits, PlaceFault};
 ghost use Rattle.misplaced.specs.Misplaced.{Misplaced};
 
@@ -49,12 +49,12 @@ fn misplaced(schema: &[u32], p: u32, row: u32) -> bool
 }
 
 fn pass_places(schema: &[u32], bad: &mut [u32], p: u32)
-    requires { ⌜ p ≤ length (now bad) ⌝ }
+    requires { ⌜ (p ≤ maxRows) × (length (now bad) ≡ maxRows) ⌝ }
     ensures { λ _. ⌜ Adds (ChildThat (now (schema .entry)) p (Misplaced (now (schema .entry)) p)) (now (bad .entry)) (now (bad .exit)) ⌝ }
 {
     let a = misplaced(schema, p, schema::child_a(schema, p));
     let b = misplaced(schema, p, schema::child_b(schema, p));
-    places::mark_children(schema, bad, p, a, b);
+    schema::mark_children(schema, bad, p, a, b);
 }
 
 // Marks the rows that are out of place. A last row that lacks fields is passed too.
@@ -95,12 +95,13 @@ fn first_misplaced(schema: &[u32]) -> Checked
     first_marked(&bad)
 }
 
-// Code 3: the first empty or notAllowed that is out of place.
+// Code 3: the first empty or notAllowed that is out of place, in a table of the right size.
 pub fn check_places(schema: &[u32]) -> Checked
-    ensures { λ r. ⌜ Bounded (now (schema .entry)) (PlaceFault (now (schema .entry))) r ⌝ }
+    ensures { λ r. ⌜ Finds (SizedFault (now (schema .entry)) (PlaceFault (now (schema .entry)))) r ⌝ }
 {
-    if schema::MAX_ROWS < schema.len() / 3 {
-        return Checked::Fault(0);
-    }
+    let size = schema::check_size(schema);
+    let Checked::Fine = size else {
+        return size;
+    };
     first_misplaced(schema)
 }

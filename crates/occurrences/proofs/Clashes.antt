@@ -11,7 +11,8 @@ use Rattle.schema.specs.Rows.{rowsOf, kindOf, childA, childB}
 use Rattle.schema.specs.Relations.{Occurs}
 use Rattle.schema.specs.RowRule.{SizeRight}
 use Rattle.schema.proofs.RowLaws.{in-table}
-use Rattle.places.specs.Marks.{Marked, Marks, Under}
+use Rattle.schema.specs.Marks.{Marked}
+use Rattle.places.specs.Marks.{Marks, Under}
 use Rattle.places.specs.Paths.{isPair}
 use Rattle.places.specs.Sources.{HasKind}
 use Rattle.occurrences.specs.Attributes.{Infinite, AttributeFault, duplicate, not-repeated}

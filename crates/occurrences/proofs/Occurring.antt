@@ -4,11 +4,10 @@ use mathlib.Core.Bool.{Bool, true, false, true≢false}
 use mathlib.Core.Logic.{_⊎_, inl, inr, ⊎-elim}
 use mathlib.Core.List.{List}
 use Prim.Native.Nat.{ℕ, _≤_, _<_}
+use Rattle.schema.specs.Kinds as kind
 use Rattle.schema.specs.Rows.{kindOf}
 use Rattle.schema.specs.Relations.{Child, connective, Occurs, itself, within}
-use Rattle.schema.specs.RowRule.{SizeRight}
-use Rattle.schema.proofs.RowLaws.{few-rows}
-use Rattle.classes.specs.Least.{Least, LeastAnswer}
+use Rattle.classes.specs.Least.{Least}
 use Rattle.classes.specs.declared.Found.{Found}
 use Rattle.classes.specs.declared.Found.the-variants.{Name, Nothing}
 use Rattle.schema.proofs.Shapes.{inside, outside}
@@ -16,11 +15,11 @@ use Rattle.occurrences.specs.Occurrences.{Somewhere, Shared}
 use Rattle.occurrences.proofs.Descent.{ByChildren}
 
 -- a kind of choice, group, interleave or oneOrMore, and one of no such pattern
-pub is-connective : (s : List ℕ) (p : ℕ) {k : ℕ} → k ≡ kindOf s p → 9 ≤ k → k ≤ 12 → connective (kindOf s p) ≡ true
-is-connective s p {k} e l h = rw (← e) (inside 9 12 k l h)
+pub is-connective : (s : List ℕ) (p : ℕ) {k : ℕ} → k ≡ kindOf s p → kind.oneOrMore ≤ k → k ≤ kind.interleave → connective (kindOf s p) ≡ true
+is-connective s p {k} e l h = rw (← e) (inside kind.oneOrMore kind.interleave k l h)
 
-pub not-connective : (s : List ℕ) (p : ℕ) {k : ℕ} → k ≡ kindOf s p → (k < 9) ⊎ (12 < k) → connective (kindOf s p) ≡ false
-not-connective s p {k} e h = rw (← e) (outside 9 12 k h)
+pub not-connective : (s : List ℕ) (p : ℕ) {k : ℕ} → k ≡ kindOf s p → (k < kind.oneOrMore) ⊎ (kind.interleave < k) → connective (kindOf s p) ≡ false
+not-connective s p {k} e h = rw (← e) (outside kind.oneOrMore kind.interleave k h)
 
 module _ (s : List ℕ) (P : ℕ → Type 0) (p : ℕ) where
   pub occurs-here : P p → Somewhere s P p
@@ -41,9 +40,9 @@ module _ (s : List ℕ) (P : ℕ → Type 0) (p : ℕ) where
   }
 
 -- classes share a name exactly when there is a least one
-module _ {s : List ℕ} {c d : ℕ} {r : Found} (answer : LeastAnswer s c d r) (right : SizeRight s) where
+module _ (s : List ℕ) (c d : ℕ) {r : Found} (least : Least s c d r) where
   pub shared-yes : {u l : ℕ} → r ≡ Name u l → Shared s c d
-  shared-yes {u} {l} e = (u, l, (subst (Least s c d) e (answer .least (few-rows right))) .0)
+  shared-yes {u} {l} e = (u, l, subst (Least s c d) e least .0)
 
   pub shared-no : r ≡ Nothing → ¬ Shared s c d
-  shared-no e f = (subst (Least s c d) e (answer .least (few-rows right))) (f .0) (f .1) (f .2)
+  shared-no e f = subst (Least s c d) e least (f .0) (f .1) (f .2)

@@ -6,7 +6,7 @@ ghost use Prim.Native.Nat.{_<_};
 ghost use Rattle.tables.specs.Answers.{Finds, Decides};
 ghost use Rattle.schema.specs.Kinds.{oneOrMore};
 ghost use Rattle.schema.specs.Rows.{rowsOf};
-ghost use Rattle.schema.specs.RowRule.{SizeRight};
+ghost use Rattle.schema.specs.RowRule.{SizeRight, SizedFault};
 ghost use Rattle.places.specs.Marks.{Marks, Under};
 ghost use Rattle.places.specs.Sources.{HasKind};
 ghost use Rattle.occurrences.specs.Attributes.{Infinite, AttributeFault};
@@ -219,7 +219,7 @@ fn interleave_fault(schema: &[u32], r: u32, compared: &mut [u64]) -> bool
 }
 
 // The first row that breaks a restriction on attributes, with a table of the rows below a oneOrMore.
-fn first_attribute(schema: &[u32], repeated: &[u32]) -> Checked
+fn scan_attributes(schema: &[u32], repeated: &[u32]) -> Checked
     requires { ⌜ SizeRight (now schema) × Marks (Under (now schema) (HasKind (now schema) oneOrMore)) (now repeated) ⌝ }
     ensures { λ r. ⌜ Finds (AttributeFault (now (schema .entry))) r ⌝ }
 {
@@ -234,21 +234,29 @@ fn first_attribute(schema: &[u32], repeated: &[u32]) -> Checked
     Checked::Fine
 }
 
-// Code 7: the first row that breaks a restriction on attributes.
-pub fn check_attributes(schema: &[u32]) -> Checked
-    ensures { λ r. ⌜ (SizeRight (now (schema .entry)) → Finds (AttributeFault (now (schema .entry))) r) ⌝ }
+// The first row that breaks a restriction on attributes.
+fn first_attribute(schema: &[u32]) -> Checked
+    requires { ⌜ SizeRight (now schema) ⌝ }
+    ensures { λ r. ⌜ Finds (AttributeFault (now (schema .entry))) r ⌝ }
 {
-    let size = rows::check_size(schema);
+    let mut repeated = [0u32; schema::MAX_ROWS];
+    places::mark_repeated(schema, &mut repeated);
+    scan_attributes(schema, &repeated)
+}
+
+// Code 7: the first row that breaks a restriction on attributes, in a table of the right size.
+pub fn check_attributes(schema: &[u32]) -> Checked
+    ensures { λ r. ⌜ Finds (SizedFault (now (schema .entry)) (AttributeFault (now (schema .entry)))) r ⌝ }
+{
+    let size = schema::check_size(schema);
     let Checked::Fine = size else {
         return size;
     };
-    let mut repeated = [0u32; schema::MAX_ROWS];
-    places::mark_repeated(schema, &mut repeated);
-    first_attribute(schema, &repeated)
+    first_attribute(schema)
 }
 
-// The first interleave that breaks a restriction on interleave.
-fn first_interleave(schema: &[u32], compared: &mut [u64]) -> Checked
+// The first interleave that breaks a restriction on interleave, with a table of the classes that share no name.
+fn scan_interleaves(schema: &[u32], compared: &mut [u64]) -> Checked
     requires { ⌜ SizeRight (now schema) × Compared (now schema) (now compared) ⌝ }
     ensures { λ r. ⌜ Finds (InterleaveFault (now (schema .entry))) r ⌝ }
 {
@@ -263,14 +271,22 @@ fn first_interleave(schema: &[u32], compared: &mut [u64]) -> Checked
     Checked::Fine
 }
 
-// Code 8: the first interleave that breaks a restriction on interleave. Two classes are compared once in each order, however often refs to their elements meet.
-pub fn check_interleaves(schema: &[u32]) -> Checked
-    ensures { λ r. ⌜ (SizeRight (now (schema .entry)) → Finds (InterleaveFault (now (schema .entry))) r) ⌝ }
+// The first interleave that breaks a restriction on interleave. Two classes are compared once in each order, however often refs to their elements meet.
+fn first_interleave(schema: &[u32]) -> Checked
+    requires { ⌜ SizeRight (now schema) ⌝ }
+    ensures { λ r. ⌜ Finds (InterleaveFault (now (schema .entry))) r ⌝ }
 {
-    let size = rows::check_size(schema);
+    let mut compared = [0u64; 4096];
+    scan_interleaves(schema, &mut compared)
+}
+
+// Code 8: the first interleave that breaks a restriction on interleave, in a table of the right size.
+pub fn check_interleaves(schema: &[u32]) -> Checked
+    ensures { λ r. ⌜ Finds (SizedFault (now (schema .entry)) (InterleaveFault (now (schema .entry)))) r ⌝ }
+{
+    let size = schema::check_size(schema);
     let Checked::Fine = size else {
         return size;
     };
-    let mut compared = [0u64; 4096];
-    first_interleave(schema, &mut compared)
+    first_interleave(schema)
 }

@@ -12,14 +12,21 @@ use Rattle.schema.specs.RowRule.{maxRows}
 use Rattle.schema.specs.Rows.{rowsOf, kindOf, shapeOf}
 use Rattle.schema.specs.Relations.{Child, by-a, by-b, Below, child, deeper}
 use Rattle.schema.proofs.Children.{child-less}
-use Rattle.places.specs.Marks.{Marked, Marks, Adds, RowEnd, ChildThat, Under}
-use Rattle.places.proofs.Marks.{marks-none, marks-same, marks-more, adds-same}
+use Rattle.schema.specs.Marks.{Marked, Adds}
+use Rattle.schema.proofs.Marks.{adds-same}
+use Rattle.places.specs.Marks.{Marks, ChildThat, Under}
+use Rattle.places.proofs.Marks.{marks-none, marks-same, marks-more}
 
 -- a row that has no kind has no child
 childless : {s : List ℕ} {p r : ℕ} → kindOf s p ≡ 0 → ¬ Child s p r
 unfolding shapeOf
 childless {s} {p} e (by-a n f) = false≢true (rw e at n)
 childless {s} {p} e (by-b n f) = false≢true (rw e at n)
+
+-- no row from n on has a kind; a row may lack fields at the end of the table, so that n can be one more than the number of rows
+pub record RowEnd (s : List ℕ) (n : ℕ) : Type 0 where
+  pub few : n ≤ suc maxRows
+  pub past : (p : ℕ) → n ≤ p → kindOf s p ≡ 0
 
 -- a row from there on starts past the last word
 pub row-end : {s : List ℕ} → rowsOf s ≤ maxRows → RowEnd s (rowsOf s + 1)

@@ -2,5 +2,4 @@ pub mod Marks
 pub mod Names
 pub mod Paths
 pub mod Places
-pub mod Repeated
 pub mod Sources

@@ -5,7 +5,7 @@ use mathlib.Core.Bool.{true}
 use mathlib.Core.Logic.{_⊎_}
 use mathlib.Core.List.{List}
 use Rattle.schema.specs.Rows.{kindOf}
-use Rattle.places.specs.Marks.{Marked}
+use Rattle.schema.specs.Marks.{Marked}
 use Rattle.places.specs.Paths.{isPair}
 use Rattle.places.specs.declared.Source.{Source}
 use Rattle.places.specs.declared.Source.the-variants.{OfKind, MarkedPair}

@@ -1,7 +1,7 @@
 -- From the searches to the codes: the first of two faults, and the faults of codes 3, 4 and 5 by what each search finds.
 use Prim.Native.Nat.{ℕ}
 use mathlib.Core.Path.{_≡_, refl}
-use mathlib.Core.Bool.{Bool, true, false, _||_}
+use mathlib.Core.Bool.{Bool, true, false}
 use mathlib.Core.Logic.{_⊎_, inl, inr, ⊎-elim}
 use mathlib.Core.List.{List}
 use native.Mathlib.Omega.{arith}
@@ -11,9 +11,11 @@ use Rattle.tables.specs.Answers.{Finds}
 use Rattle.tables.specs.declared.Checked.{Checked}
 use Rattle.tables.specs.declared.Checked.the-variants.{Fine, Fault}
 use Rattle.tables.proofs.Answers.{finds-same}
+use Rattle.tables.proofs.Booleans.{or-either}
 use Rattle.schema.specs.Kinds as kind
 use Rattle.places.specs.Marks.{Marks, Under}
 use Rattle.places.specs.Sources.{HasKind, PairIn}
+use Rattle.places.proofs.Marks.{marks-same}
 use Rattle.prohibited.specs.Prohibited.{RepeatedPair, MarkedKind, Prohibited, earliest}
 use Rattle.prohibited.specs.declared.Kinds.{Kinds}
 use Rattle.prohibited.specs.declared.Kinds.the-variants.{NotInAnyName, NotInNsName, NotInAttribute, NotInPair, NotInExcept, NotInStart}
@@ -46,14 +48,10 @@ module _ {s : List ℕ} {S : ℕ → Type 0} {t : List ℕ} (kinds : Kinds) wher
       (λ r f. record { mark = m .complete r (f .under); among = f .among })
 
 pub marks-repeated : {s t : List ℕ} {u : List ℕ} → Marks (Under s (HasKind s kind.oneOrMore)) t → Marks (Under s (PairIn s t)) u → Marks (Under s (RepeatedPair s)) u
-marks-repeated m n = record {
-  sound = λ r h. let u = n .sound r h in record { row = u .row; source = record { pair = u .source .pair; repeated = m .sound (u .row) (u .source .mark) }; below = u .below };
-  complete = λ r u. n .complete r (record { row = u .row; source = record { pair = u .source .pair; mark = m .complete (u .row) (u .source .repeated) }; below = u .below });
-}
-
-either-true : (a b : Bool) → (a || b) ≡ true → (a ≡ true) ⊎ (b ≡ true)
-either-true true b e = inl refl
-either-true false b e = inr e
+marks-repeated m =
+    marks-same
+    (λ r u. record { row = u .row; source = record { pair = u .source .pair; repeated = m .sound (u .row) (u .source .mark) }; below = u .below })
+    (λ r u. record { row = u .row; source = record { pair = u .source .pair; mark = m .complete (u .row) (u .source .repeated) }; below = u .below })
 
 -- code 4, by the anyNames and by the nsNames
 abbrev pub Names : List ℕ → ℕ → Type 0
@@ -67,7 +65,7 @@ module _ {s : List ℕ} where
       ⊎-elim
       (λ e. anyName-in-nsName (u .row) (eqb-true _ _ e) (u .source) (u .below))
       (λ e. nsName-in-nsName (u .row) (eqb-true _ _ e) (u .source) (u .below))
-      (either-true _ _ (f .among))
+      (or-either _ _ (f .among))
 
   pub fault-name : (r : ℕ) → NameFault s r → Names s r
   fault-name r (anyName-in-anyName p e k b) = inl (record { under = record { row = p; source = k; below = b }; among = eq-eqb _ _ e })

@@ -8,7 +8,8 @@ use Rattle.tables.specs.declared.Checked.{Checked}
 use Rattle.tables.specs.declared.Checked.the-variants.{Fine, Fault}
 use Rattle.schema.specs.Kinds as kind
 use Rattle.schema.specs.Rows.{kindOf}
-use Rattle.places.specs.Marks.{Marked, Under}
+use Rattle.schema.specs.Marks.{Marked}
+use Rattle.places.specs.Marks.{Under}
 use Rattle.places.specs.Sources.{HasKind}
 use Rattle.places.specs.Paths.{isPair, notInAttribute, notInExcept, notInStart}
 use Rattle.prohibited.specs.declared.Kinds.{Kinds}

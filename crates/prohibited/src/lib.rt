@@ -5,9 +5,8 @@ ghost use mathlib.Core.Path.{_≡_};
 ghost use Prim.Native.Nat.{_≤_};
 ghost use lib.ListN.{length};
 ghost use Rattle.tables.specs.Answers.{Finds};
-ghost use Rattle.schema.specs.RowRule.{maxRows};
+ghost use Rattle.schema.specs.RowRule.{maxRows, SizedFault};
 ghost use Rattle.schema.specs.Rows.{rowsOf};
-ghost use Rattle.schema.specs.Bounded.{Bounded};
 ghost use Rattle.places.specs.Sources.{HasKind};
 ghost use Rattle.places.specs.Names.{NameFault};
 ghost use Rattle.places.specs.Paths.{notInAttribute, notInExcept, notInStart, PathFault};
@@ -144,22 +143,24 @@ fn first_name(schema: &[u32]) -> Checked
     earlier(any, ns)
 }
 
-// Code 4: the first anyName or nsName in an except that has no place for it.
+// Code 4: the first anyName or nsName in an except that has no place for it, in a table of the right size.
 pub fn check_names(schema: &[u32]) -> Checked
-    ensures { λ r. ⌜ Bounded (now (schema .entry)) (NameFault (now (schema .entry))) r ⌝ }
+    ensures { λ r. ⌜ Finds (SizedFault (now (schema .entry)) (NameFault (now (schema .entry)))) r ⌝ }
 {
-    if schema::MAX_ROWS < schema.len() / 3 {
-        return Checked::Fault(0);
-    }
+    let size = schema::check_size(schema);
+    let Checked::Fine = size else {
+        return size;
+    };
     first_name(schema)
 }
 
-// Code 5: the first row on a prohibited path.
+// Code 5: the first row on a prohibited path, in a table of the right size.
 pub fn check_paths(schema: &[u32]) -> Checked
-    ensures { λ r. ⌜ Bounded (now (schema .entry)) (PathFault (now (schema .entry))) r ⌝ }
+    ensures { λ r. ⌜ Finds (SizedFault (now (schema .entry)) (PathFault (now (schema .entry)))) r ⌝ }
 {
-    if schema::MAX_ROWS < schema.len() / 3 {
-        return Checked::Fault(0);
-    }
+    let size = schema::check_size(schema);
+    let Checked::Fine = size else {
+        return size;
+    };
     first_prohibited(schema)
 }

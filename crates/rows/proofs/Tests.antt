@@ -1,33 +1,13 @@
--- What the checks of a size and of a row find, and how the two make the rule of rows.
+-- What the check of a row finds, and how it makes the rule of rows in a table of the right size.
 use mathlib.Core.Path.{_≡_, sym}
-use mathlib.Core.Logic.{_≢_}
 use mathlib.Core.Bool.{Bool}
 use mathlib.Core.List.{List}
-use Prim.Native.Nat.{ℕ, _%_, _≤_, _<_}
-use native.Mathlib.Omega.{arith}
-use lib.ListN.{length, getD}
-use Rattle.tables.specs.Answers.{Clear}
+use Prim.Native.Nat.{ℕ, _<_}
+use lib.ListN.{getD}
 use Rattle.schema.specs.Rows.{rowsOf, kindOf, aOf, bOf, shapeOf}
 use Rattle.schema.specs.declared.Shape.{Shape}
-use Rattle.schema.specs.RowRule.{maxRows, fieldRight, usesBelow, rowRight, WrongRow, SizeFault, SizeRight, no-row, too-many-rows, broken-length, RowFault, bad-size, bad-row}
+use Rattle.schema.specs.RowRule.{maxRows, fieldRight, usesBelow, rowRight, WrongRow, SizeRight, RowFault, bad-size, bad-row}
 use Rattle.rows.specs.Counts.{Counts}
-
-pub size-right : {s : List ℕ} → rowsOf s ≢ 0 → rowsOf s ≤ maxRows → length s % 3 ≡ 0 → (r : ℕ) → ¬ SizeFault s r
-size-right some few whole r (no-row e z) = some e
-size-right some few whole r (too-many-rows h z) = omega arith
-size-right some few whole r (broken-length w z) = w whole
-
--- a wrong size is placed at row 0 and comes first
-pub first-bad-size : {strings : ℕ} {s : List ℕ} {place : ℕ} → SizeFault s place → Clear (SizeFault s) place → RowFault strings s place × Clear (RowFault strings s) place
-first-bad-size {strings} {s} {place} f clear = (bad-size f, λ k h. absurd (before k h))
-  where
-    zero-place : {k : ℕ} → SizeFault s k → k ≡ 0
-    zero-place (no-row e z) = z
-    zero-place (too-many-rows e z) = z
-    zero-place (broken-length e z) = z
-
-    before : (k : ℕ) → k < place → ⊥
-    before k h = omega (arith, zero-place f)
 
 -- with the right size only rows can be wrong
 pub only-rows : {s : List ℕ} → SizeRight s → {strings : ℕ} (r : ℕ) → RowFault strings s r → WrongRow strings s r

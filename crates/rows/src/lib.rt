@@ -1,5 +1,4 @@
 // The rule of schema rows, code 2.
-use schema::MAX_ROWS;
 use schema::Sort;
 use tables::Checked;
 ghost use mathlib.Core.Path.{_≡_};
@@ -8,7 +7,7 @@ ghost use lib.ListN.{getD};
 ghost use Rattle.tables.specs.Answers.{Finds};
 ghost use Rattle.tables.specs.Outputs.{zeros};
 ghost use Rattle.schema.specs.Rows.{rowsOf};
-ghost use Rattle.schema.specs.RowRule.{maxRows, sortRight, rowRight, WrongRow, SizeFault, RowFault};
+ghost use Rattle.schema.specs.RowRule.{maxRows, sortRight, rowRight, WrongRow, RowFault};
 ghost use Rattle.rows.specs.Counts.{Counts, Added};
 
 // Whether a row of a sort may have so many parents, and be the last row or not.
@@ -49,23 +48,6 @@ fn count_uses(schema: &[u32], counts: &mut [u32])
     }
 }
 
-// The number of words and rows.
-pub fn check_size(schema: &[u32]) -> Checked
-    ensures { λ r. ⌜ Finds (SizeFault (now (schema .entry))) r ⌝ }
-{
-    let rows = schema.len() / 3;
-    if rows == 0 {
-        return Checked::Fault(0);
-    }
-    if MAX_ROWS < rows {
-        return Checked::Fault(0);
-    }
-    if schema.len() % 3 != 0 {
-        return Checked::Fault(0);
-    }
-    Checked::Fine
-}
-
 // Whether row r keeps its rule, where it is used so often.
 fn row_right(strings: usize, schema: &[u32], r: u32, uses: u32) -> bool
     ensures { λ right. ⌜ right ≡ rowRight strings (now (schema .entry)) r uses ⌝ }
@@ -83,8 +65,8 @@ fn row_right(strings: usize, schema: &[u32], r: u32, uses: u32) -> bool
     sort_right(sort, uses, r as usize + 1 == schema.len() / 3)
 }
 
-// The first row that breaks its rule.
-fn first_wrong_row(strings: usize, schema: &[u32], counts: &[u32]) -> Checked
+// The first row that breaks its rule, with the uses of each row.
+fn scan_rows(strings: usize, schema: &[u32], counts: &[u32]) -> Checked
     requires { ⌜ (rowsOf (now schema) ≤ maxRows) × Counts (now schema) (now counts) (rowsOf (now schema)) ⌝ }
     ensures { λ r. ⌜ Finds (WrongRow strings (now (schema .entry))) r ⌝ }
 {
@@ -99,15 +81,23 @@ fn first_wrong_row(strings: usize, schema: &[u32], counts: &[u32]) -> Checked
     Checked::Fine
 }
 
+// The first row that breaks its rule.
+fn first_wrong_row(strings: usize, schema: &[u32]) -> Checked
+    requires { ⌜ rowsOf (now schema) ≤ maxRows ⌝ }
+    ensures { λ r. ⌜ Finds (WrongRow strings (now (schema .entry))) r ⌝ }
+{
+    let mut counts = [0u32; schema::MAX_ROWS];
+    count_uses(schema, &mut counts);
+    scan_rows(strings, schema, &counts)
+}
+
 // Code 2: the place of the first row that breaks the rule of schema rows, in a table beside so many strings.
 pub fn check_rows(strings: usize, schema: &[u32]) -> Checked
     ensures { λ r. ⌜ Finds (RowFault strings (now (schema .entry))) r ⌝ }
 {
-    let size = check_size(schema);
+    let size = schema::check_size(schema);
     let Checked::Fine = size else {
         return size;
     };
-    let mut counts = [0u32; MAX_ROWS];
-    count_uses(schema, &mut counts);
-    first_wrong_row(strings, schema, &counts)
+    first_wrong_row(strings, schema)
 }

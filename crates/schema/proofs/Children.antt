@@ -1,6 +1,6 @@
 -- Whether a field names a child, from what the code has read of the row.
 use mathlib.Core.Path.{_≡_, refl, sym, _∙_, ap}
-use mathlib.Core.Bool.{Bool, true, false, _&&_, true≢false, false≢true}
+use mathlib.Core.Bool.{Bool, true, false, false≢true}
 use mathlib.Core.Logic.{_⊎_, inl, inr}
 use mathlib.Core.List.{List}
 use Prim.Native.Nat.{ℕ, _%_, _≤_, _<_}
@@ -8,6 +8,7 @@ use native.Mathlib.Omega.{arith}
 use lib.Dec.{ltb}
 use lib.ListN.{length, List·getD-eq-default}
 use borrow.Author.Tests.{ltb-true}
+use Rattle.tables.proofs.Booleans.{and-left}
 use Rattle.schema.specs.Rows.{rowsOf, kindOf, aOf, bOf, shapeOf, names, namesA, namesB, childA, childB, isPattern, isClass, sortOf}
 use Rattle.schema.specs.Kinds.{none}
 use Rattle.schema.specs.Relations.{Child, by-a, by-b}
@@ -23,10 +24,6 @@ module _ (s : List ℕ) (p : ℕ) {k x : ℕ} {shape : Shape} {r : Bool} where
   named-b e f g h = rw (← e, ← f, ← g) (sym h)
 
 -- a child is a smaller row
-and-left : (x y : Bool) → (x && y) ≡ true → x ≡ true
-and-left true y e = refl
-and-left false y e = absurd (false≢true e)
-
 names-less : (s : List ℕ) (p : ℕ) (f : Field) (x : ℕ) → names s p f x ≡ true → x < p
 names-less s p Unused x e = absurd (false≢true e)
 names-less s p APattern x e = ltb-true x p (and-left (ltb x p) (isPattern (sortOf s x)) e)

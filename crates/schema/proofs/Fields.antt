@@ -1,6 +1,6 @@
 -- What the fields of a row hold, in a table that keeps the rule of rows.
-use mathlib.Core.Path.{_≡_, refl, sym, _∙_}
-use mathlib.Core.Bool.{Bool, true, false, cond, _&&_, _||_, false≢true}
+use mathlib.Core.Path.{_≡_, refl}
+use mathlib.Core.Bool.{Bool, true, false, _&&_, false≢true}
 use mathlib.Core.Logic.{_⊎_, inl, inr}
 use mathlib.Core.List.{List}
 use Prim.Native.Nat.{ℕ, _+_, _≤_, _<_}
@@ -8,19 +8,12 @@ use native.Mathlib.Omega.{arith}
 use native.Mathlib.Decide.{ℕ-discrete}
 use lib.Dec.{ltb, leb, eqb}
 use borrow.Author.Tests.{eqb-true, leb-true}
+use Rattle.tables.proofs.Booleans.{and-both, or-either, either}
 use Rattle.schema.specs.Kinds as kind
 use Rattle.schema.specs.Rows.{rowsOf, kindOf, aOf, bOf, shapeOf, sortOf, isPattern, names, namesA, namesB}
 use Rattle.schema.specs.RowRule.{fieldRight, sortRight, usesBelow, rowRight, RowsRight, bad-row}
 use Rattle.schema.specs.declared.Shape.{Shape}
 use Rattle.schema.specs.declared.Field.the-variants.{APattern, PatternOrNone}
-
-pub and-both : (x y : Bool) → (x && y) ≡ true → (x ≡ true) × (y ≡ true)
-and-both true y e = (refl, e)
-and-both false y e = absurd (false≢true e)
-
-or-either : (x y : Bool) → (x || y) ≡ true → (x ≡ true) ⊎ (y ≡ true)
-or-either true y e = inl refl
-or-either false y e = inr e
 
 module _ (strings : ℕ) (s : List ℕ) (right : RowsRight strings s) (r : ℕ) (h : r < rowsOf s) where
   pub row-right : rowRight strings s r (usesBelow s r (rowsOf s)) ≡ true
@@ -68,26 +61,22 @@ pub data PatternKind (k : ℕ) : Type 0 where
   is-group : k ≡ kind.group → PatternKind k
   is-interleave : k ≡ kind.interleave → PatternKind k
 
-pub either-shape : (P : Shape → Type 0) (b : Bool) {x y : Shape} → (b ≡ true → P x) → (b ≡ false → P y) → P (cond b x y)
-either-shape P true f g = f refl
-either-shape P false f g = g refl
-
 pub pattern-kind : (k : ℕ) → isPattern (shapeOf k .sort) ≡ true → PatternKind k
 unfolding shapeOf
 pattern-kind k =
-    either-shape P (leb kind.empty k && leb k kind.text) (λ e p. low (and-both (leb kind.empty k) (leb k kind.text) e)) (λ e₁.
-    either-shape P (eqb k kind.«data») (λ e p. is-data (eqb-true _ _ e)) (λ e₂.
-    either-shape P (eqb k kind.value) (λ e p. is-value (eqb-true _ _ e)) (λ e₃.
-    either-shape P (eqb k kind.attribute) (λ e p. is-attribute (eqb-true _ _ e)) (λ e₄.
-    either-shape P (eqb k kind.ref) (λ e p. is-ref (eqb-true _ _ e)) (λ e₅.
-    either-shape P (eqb k kind.oneOrMore) (λ e p. is-oneOrMore (eqb-true _ _ e)) (λ e₆.
-    either-shape P (leb kind.choice k && leb k kind.interleave) (λ e p. high (and-both (leb kind.choice k) (leb k kind.interleave) e)) (λ e₇.
-    either-shape P (eqb k kind.anyName) (λ e. never) (λ e₈.
-    either-shape P (eqb k kind.nsName) (λ e. never) (λ e₉.
-    either-shape P (eqb k kind.name) (λ e. never) (λ e₁₀.
-    either-shape P (eqb k kind.nameChoice) (λ e. never) (λ e₁₁.
-    either-shape P (eqb k kind.element) (λ e. never) (λ e₁₂.
-    either-shape P (eqb k kind.start) (λ e. never) (λ e₁₃. never)))))))))))))
+    either P (leb kind.empty k && leb k kind.text) (λ e p. low (and-both (leb kind.empty k) (leb k kind.text) e)) (λ e₁.
+    either P (eqb k kind.«data») (λ e p. is-data (eqb-true _ _ e)) (λ e₂.
+    either P (eqb k kind.value) (λ e p. is-value (eqb-true _ _ e)) (λ e₃.
+    either P (eqb k kind.attribute) (λ e p. is-attribute (eqb-true _ _ e)) (λ e₄.
+    either P (eqb k kind.ref) (λ e p. is-ref (eqb-true _ _ e)) (λ e₅.
+    either P (eqb k kind.oneOrMore) (λ e p. is-oneOrMore (eqb-true _ _ e)) (λ e₆.
+    either P (leb kind.choice k && leb k kind.interleave) (λ e p. high (and-both (leb kind.choice k) (leb k kind.interleave) e)) (λ e₇.
+    either P (eqb k kind.anyName) (λ e. never) (λ e₈.
+    either P (eqb k kind.nsName) (λ e. never) (λ e₉.
+    either P (eqb k kind.name) (λ e. never) (λ e₁₀.
+    either P (eqb k kind.nameChoice) (λ e. never) (λ e₁₁.
+    either P (eqb k kind.element) (λ e. never) (λ e₁₂.
+    either P (eqb k kind.start) (λ e. never) (λ e₁₃. never)))))))))))))
   where
     P : Shape → Type 0
     P shape = isPattern (shape .sort) ≡ true → PatternKind k

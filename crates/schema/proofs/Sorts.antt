@@ -5,6 +5,7 @@ use mathlib.Core.List.{List}
 use Prim.Native.Nat.{ℕ, _+_, _<_}
 use lib.Dec.{leb, eqb}
 use borrow.Author.Tests.{eq-eqb, eqb-true}
+use Rattle.tables.proofs.Booleans.{and-both, either}
 use Rattle.schema.specs.Kinds as kind
 use Rattle.schema.specs.Rows.{rowsOf, kindOf, aOf, bOf, shapeOf, sortOf, isElement, namesA}
 use Rattle.schema.specs.RowRule.{fieldRight, sortRight, usesBelow, RowsRight}
@@ -12,7 +13,7 @@ use Rattle.schema.specs.declared.Sort.{Sort}
 use Rattle.schema.specs.declared.Sort.the-variants.{Pattern, NameClass, Element, Start, Bad}
 use Rattle.schema.specs.declared.Shape.{Shape}
 use Rattle.schema.specs.declared.Field.the-variants.{AClass}
-use Rattle.schema.proofs.Fields.{and-both, either-shape, row-right, both-fields}
+use Rattle.schema.proofs.Fields.{row-right, both-fields}
 
 -- of some sorts there is one kind only
 data KindOf (k : ℕ) : Sort → Type 0 where
@@ -25,19 +26,19 @@ data KindOf (k : ℕ) : Sort → Type 0 where
 kind-of : (k : ℕ) → KindOf k (shapeOf k .sort)
 unfolding shapeOf
 kind-of k =
-    either-shape P (leb kind.empty k && leb k kind.text) (λ e. of-pattern) (λ e₁.
-    either-shape P (eqb k kind.«data») (λ e. of-pattern) (λ e₂.
-    either-shape P (eqb k kind.value) (λ e. of-pattern) (λ e₃.
-    either-shape P (eqb k kind.attribute) (λ e. of-pattern) (λ e₄.
-    either-shape P (eqb k kind.ref) (λ e. of-pattern) (λ e₅.
-    either-shape P (eqb k kind.oneOrMore) (λ e. of-pattern) (λ e₆.
-    either-shape P (leb kind.choice k && leb k kind.interleave) (λ e. of-pattern) (λ e₇.
-    either-shape P (eqb k kind.anyName) (λ e. of-class) (λ e₈.
-    either-shape P (eqb k kind.nsName) (λ e. of-class) (λ e₉.
-    either-shape P (eqb k kind.name) (λ e. of-class) (λ e₁₀.
-    either-shape P (eqb k kind.nameChoice) (λ e. of-class) (λ e₁₁.
-    either-shape P (eqb k kind.element) (λ e. of-element (eqb-true _ _ e)) (λ e₁₂.
-    either-shape P (eqb k kind.start) (λ e. of-start (eqb-true _ _ e)) (λ e₁₃. of-bad)))))))))))))
+    either P (leb kind.empty k && leb k kind.text) (λ e. of-pattern) (λ e₁.
+    either P (eqb k kind.«data») (λ e. of-pattern) (λ e₂.
+    either P (eqb k kind.value) (λ e. of-pattern) (λ e₃.
+    either P (eqb k kind.attribute) (λ e. of-pattern) (λ e₄.
+    either P (eqb k kind.ref) (λ e. of-pattern) (λ e₅.
+    either P (eqb k kind.oneOrMore) (λ e. of-pattern) (λ e₆.
+    either P (leb kind.choice k && leb k kind.interleave) (λ e. of-pattern) (λ e₇.
+    either P (eqb k kind.anyName) (λ e. of-class) (λ e₈.
+    either P (eqb k kind.nsName) (λ e. of-class) (λ e₉.
+    either P (eqb k kind.name) (λ e. of-class) (λ e₁₀.
+    either P (eqb k kind.nameChoice) (λ e. of-class) (λ e₁₁.
+    either P (eqb k kind.element) (λ e. of-element (eqb-true _ _ e)) (λ e₁₂.
+    either P (eqb k kind.start) (λ e. of-start (eqb-true _ _ e)) (λ e₁₃. of-bad)))))))))))))
   where
     P : Shape → Type 0
     P shape = KindOf k (shape .sort)

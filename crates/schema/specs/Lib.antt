@@ -1,6 +1,6 @@
-pub mod Bounded
 pub mod Falling
 pub mod Kinds
+pub mod Marks
 pub mod Relations
 pub mod RowRule
 pub mod Rows

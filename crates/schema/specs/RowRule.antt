@@ -64,6 +64,11 @@ pub data SizeFault (s : List ℕ) (r : ℕ) : Type 0 where
 abbrev pub SizeRight : List ℕ → Type 0
 SizeRight s = (r : ℕ) → ¬ SizeFault s r
 
+-- what the check of a code whose faults are P finds in any table: a fault of its size, and in a table of the right size a fault of the code
+pub data SizedFault (s : List ℕ) (P : ℕ → Type 0) (r : ℕ) : Type 0 where
+  bad-table : SizeFault s r → SizedFault s P r
+  bad-place : SizeRight s → P r → SizedFault s P r
+
 -- code 2 at row r
 pub data RowFault (strings : ℕ) (s : List ℕ) (r : ℕ) : Type 0 where
   bad-size : SizeFault s r → RowFault strings s r

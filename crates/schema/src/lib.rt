@@ -1,7 +1,10 @@
 // Schema rows: what a row of each kind holds, its children, and what a field may hold.
+use tables::Checked;
 ghost use mathlib.Core.Path.{_≡_};
+ghost use Rattle.tables.specs.Answers.{Finds};
 ghost use Rattle.schema.specs.Rows.{kindOf, aOf, bOf, shape, shapeOf, sortOf, names, childA, childB, isPattern, isClass, isElement};
-ghost use Rattle.schema.specs.RowRule.{fieldRight};
+ghost use Rattle.schema.specs.RowRule.{fieldRight, SizeFault};
+ghost use Rattle.schema.specs.Marks.{markIf, childrenMarked};
 
 pub const MAX_ROWS: usize = 512;
 
@@ -94,6 +97,23 @@ fn made(sort: Sort, a: Field, b: Field) -> Shape
     ensures { λ r. ⌜ r ≡ shape sort a b ⌝ }
 {
     Shape { sort, a, b }
+}
+
+// The number of words and rows.
+pub fn check_size(schema: &[u32]) -> Checked
+    ensures { λ r. ⌜ Finds (SizeFault (now (schema .entry))) r ⌝ }
+{
+    let rows = schema.len() / 3;
+    if rows == 0 {
+        return Checked::Fault(0);
+    }
+    if MAX_ROWS < rows {
+        return Checked::Fault(0);
+    }
+    if schema.len() % 3 != 0 {
+        return Checked::Fault(0);
+    }
+    Checked::Fine
 }
 
 // What a row of a kind is, and what its fields hold.
@@ -233,6 +253,24 @@ pub fn child_b(schema: &[u32], p: u32) -> u32
     } else {
         NONE
     }
+}
+
+// Row r is marked where it is wanted.
+fn mark_if(marks: &mut [u32], wanted: bool, r: u32)
+    ensures { λ _. ⌜ now (marks .exit) ≡ markIf wanted r (now (marks .entry)) ⌝ }
+{
+    if wanted {
+        tables::put_u32(marks, r as usize, 1);
+        return;
+    }
+}
+
+// Marks the child of row p through field a where the first is wanted, and the one through field b where the second is; past the end of the marks nothing is stored.
+pub fn mark_children(schema: &[u32], marks: &mut [u32], p: u32, a: bool, b: bool)
+    ensures { λ _. ⌜ now (marks .exit) ≡ childrenMarked (now (schema .entry)) p a b (now (marks .entry)) ⌝ }
+{
+    mark_if(marks, a, child_a(schema, p));
+    mark_if(marks, b, child_b(schema, p));
 }
 
 // Whether a field of row p may hold the word x, in a table beside so many strings.

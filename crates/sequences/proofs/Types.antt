@@ -8,26 +8,15 @@ use native.Mathlib.Omega.{arith}
 use lib.Dec.{eqb}
 use borrow.Author.Tests.{lt-ltb, eqb-true, eq-eqb, not-true}
 use Rattle.tables.specs.Answers.{Decides}
+use Rattle.tables.proofs.Booleans.{and-both, or-either, either}
 use Rattle.schema.specs.Kinds as kind
 use Rattle.schema.specs.Rows.{kindOf, bOf, childA, childB}
-use Rattle.schema.proofs.Fields.{and-both}
 use Rattle.places.specs.Paths.{isPair}
 use Rattle.sequences.specs.Content.{groupable, HasType, value-type, data-type-1, data-type-2, text-type, ref-type, empty-type, attribute-type, pair-type, oneOrMore-type, choice-type, SequenceFault, pair-not-groupable, repeat-not-groupable}
 use Rattle.sequences.specs.TypeTable.{noType, typed, fits, clashes, typeBy, clashBy, TypeIs}
 
 three : (x y z : Bool) → (x && y && z) ≡ true → (x ≡ true) × (y ≡ true) × (z ≡ true)
-three true true z e = (refl, refl, e)
-three true false z e = absurd (false≢true e)
-three false y z e = absurd (false≢true e)
-
--- a choice between two has what both have
-either : (P : ℕ → Type 0) (b : Bool) {x y : ℕ} → (b ≡ true → P x) → (b ≡ false → P y) → P (cond b x y)
-either P true f g = f refl
-either P false f g = g refl
-
-or-elim : {P : Type 0} (x y : Bool) → (x || y) ≡ true → (x ≡ true → P) → (y ≡ true → P) → P
-or-elim true y e f g = f refl
-or-elim false y e f g = g e
+three x y z e = let f = and-both (x && y) z e in let g = and-both x y (f .0) in (g .0, g .1, f .1)
 
 -- there are three types
 pub type-low : {s : List ℕ} {r c : ℕ} → HasType s r c → c < noType
@@ -44,7 +33,7 @@ type-low (choice-type e t u) = omega (arith, type-low t, type-low u)
 
 -- the type and the clash of a group or interleave
 pub pair-kind : (k : ℕ) → isPair k ≡ true → (k ≡ kind.group) ⊎ (k ≡ kind.interleave)
-pair-kind k e = or-elim (eqb k kind.group) (eqb k kind.interleave) e (λ x. inl (eqb-true _ _ x)) (λ x. inr (eqb-true _ _ x))
+pair-kind k e = ⊎-elim (λ x. inl (eqb-true _ _ x)) (λ x. inr (eqb-true _ _ x)) (or-either (eqb k kind.group) (eqb k kind.interleave) e)
 
 pair-by : (k b c d : ℕ) → isPair k ≡ true → typeBy k b c d ≡ cond (fits c d) (max c d) noType
 unfolding typeBy
@@ -73,10 +62,10 @@ module _ (s : List ℕ) (r c d : ℕ) (first : TypeIs s (childA s r) c) (second 
   has =
       let k = kindOf s r in
       either Given (eqb k kind.empty) (λ e t. empty-type (eqb-true _ _ e)) (λ e₁.
-      either Given (eqb k kind.text || eqb k kind.ref) (λ e t. or-elim (eqb k kind.text) (eqb k kind.ref) e (λ x. text-type (eqb-true _ _ x)) (λ x. ref-type (eqb-true _ _ x))) (λ e₂.
+      either Given (eqb k kind.text || eqb k kind.ref) (λ e t. ⊎-elim (λ x. text-type (eqb-true _ _ x)) (λ x. ref-type (eqb-true _ _ x)) (or-either (eqb k kind.text) (eqb k kind.ref) e)) (λ e₂.
       either Given (eqb k kind.value) (λ e t. value-type (eqb-true _ _ e)) (λ e₃.
       either Given (eqb k kind.«data») (λ e. either Given (eqb (bOf s r) kind.none || typed d)
-      (λ f t. or-elim (eqb (bOf s r) kind.none) (typed d) f (λ x. data-type-1 (eqb-true _ _ e) (eqb-true _ _ x)) (λ x. data-type-2 (eqb-true _ _ e) (second .has x))) (λ f. no-type)) (λ e₄.
+      (λ f t. ⊎-elim (λ x. data-type-1 (eqb-true _ _ e) (eqb-true _ _ x)) (λ x. data-type-2 (eqb-true _ _ e) (second .has x)) (or-either (eqb (bOf s r) kind.none) (typed d) f)) (λ f. no-type)) (λ e₄.
       either Given (eqb k kind.attribute) (λ e. either Given (typed d) (λ f t. attribute-type (eqb-true _ _ e) (second .has f)) (λ f. no-type)) (λ e₅.
       either Given (eqb k kind.oneOrMore) (λ e. either Given (fits c c)
       (λ f t. let g = three (typed c) (typed c) (groupable c c) f in oneOrMore-type (eqb-true _ _ e) (first .has (g .0)) (g .2)) (λ f. no-type)) (λ e₆.

@@ -9,7 +9,7 @@ ghost use Rattle.tables.specs.Answers.{Finds, Decides};
 ghost use Rattle.tables.specs.Outputs.{zeros};
 ghost use Rattle.schema.specs.Kinds.{none};
 ghost use Rattle.schema.specs.Rows.{rowsOf};
-ghost use Rattle.schema.specs.RowRule.{maxRows, SizeRight};
+ghost use Rattle.schema.specs.RowRule.{maxRows, SizeRight, SizedFault};
 ghost use Rattle.sequences.specs.Content.{groupable, SequenceFault};
 ghost use Rattle.sequences.specs.TypeTable.{noType, typed, fits, clashes, typeBy, clashBy, TypeIs, Types};
 
@@ -126,8 +126,8 @@ fn type_row(schema: &[u32], types: &mut [u32], r: u32) -> bool
     row_clashes(kind, c, d)
 }
 
-// The first row whose operands do not go together, with a table of types to fill.
-fn first_clash(schema: &[u32], types: &mut [u32]) -> Checked
+// The first row whose operands do not go together; the types of the rows before it are added to the table.
+fn scan_types(schema: &[u32], types: &mut [u32]) -> Checked
     requires { ⌜ SizeRight (now schema) × (now types ≡ zeros maxRows) ⌝ }
     ensures { λ r. ⌜ Finds (SequenceFault (now (schema .entry))) r ⌝ }
 {
@@ -142,14 +142,22 @@ fn first_clash(schema: &[u32], types: &mut [u32]) -> Checked
     Checked::Fine
 }
 
-// Code 6: the first row whose operands have content types that do not go together.
-pub fn check_content(schema: &[u32]) -> Checked
-    ensures { λ r. ⌜ (SizeRight (now (schema .entry)) → Finds (SequenceFault (now (schema .entry))) r) ⌝ }
+// The first row whose operands do not go together.
+fn first_clash(schema: &[u32]) -> Checked
+    requires { ⌜ SizeRight (now schema) ⌝ }
+    ensures { λ r. ⌜ Finds (SequenceFault (now (schema .entry))) r ⌝ }
 {
-    let size = rows::check_size(schema);
+    let mut types = [0u32; schema::MAX_ROWS];
+    scan_types(schema, &mut types)
+}
+
+// Code 6: the first row whose operands have content types that do not go together, in a table of the right size.
+pub fn check_content(schema: &[u32]) -> Checked
+    ensures { λ r. ⌜ Finds (SizedFault (now (schema .entry)) (SequenceFault (now (schema .entry)))) r ⌝ }
+{
+    let size = schema::check_size(schema);
     let Checked::Fine = size else {
         return size;
     };
-    let mut types = [0u32; schema::MAX_ROWS];
-    first_clash(schema, &mut types)
+    first_clash(schema)
 }

@@ -1,27 +1,24 @@
 -- The two rows are marked and with them all rows of both classes, so that each common name has one on the grid that is not after it.
 use Prim.Native.Nat.{ℕ}
-use native.Mathlib.Omega.{arith}
 use lib.ListN.{replicate, length-replicate}
-use borrow.Author.Needs.{needs}
+use Rattle.classes.specs.Search.{markedRows}
 use Rattle.classes.proofs.Marks.{two-marked}
 use Rattle.classes.proofs.Grid.{least-on-grid}
+use borrow.Author.Needs.{needs}
 use Rattle.classes.proofs.least_common.Statement.{statement}
 use Rattle.classes.proofs.least_common.Tie as tie
 
-returns : tie.Need-returns
-returns c = search needs
+slice-aggregate-put-u32 : tie.Need-slice-aggregate-put-u32
+slice-aggregate-put-u32 c = search needs
 
-slice-aggregate-mark : tie.Need-slice-aggregate-mark
-slice-aggregate-mark c = search needs
+put-u32-requires : tie.Need-put-u32-requires
+put-u32-requires c κs = search needs
 
-mark-requires : tie.Need-mark-requires
-mark-requires c κs = search needs
+slice-aggregate-put-u32-2 : tie.Need-slice-aggregate-put-u32-2
+slice-aggregate-put-u32-2 c = search needs
 
-slice-aggregate-mark-2 : tie.Need-slice-aggregate-mark-2
-slice-aggregate-mark-2 c = search needs
-
-mark-requires-2 : tie.Need-mark-requires-2
-mark-requires-2 c κs = search needs
+put-u32-requires-2 : tie.Need-put-u32-requires-2
+put-u32-requires-2 c κs = search needs
 
 slice-aggregate-mark-below : tie.Need-slice-aggregate-mark-below
 slice-aggregate-mark-below c = search needs
@@ -56,23 +53,22 @@ slice-aggregate-try-names-2 c = search needs
 try-names-requires : tie.Need-try-names-requires
 try-names-requires c κs = search needs
 
-returns-2 : tie.Need-returns-2
-returns-2 c =
-    let marked = two-marked (replicate 513 0) (c .before .before .before .before .before .before .before .before .before .before .before .before .before .before .before .before .before .before .before .before .before .before .args .first) (c .before .before .before .before .before .before .before .before .before .before .before .before .before .before .before .before .before .before .before .before .before .before .args .second) (length-replicate {A = ℕ} 513 0) (c .before .before .before .before .before .before .before .before .before .before .before .before .before .before .before .before .before .before .mark .ensures) (c .before .before .before .before .before .before .before .before .before .before .before .before .before .before .before .mark2 .ensures) (c .before .before .before .before .before .before .before .before .before .before .before .before .mark-below .ensures) in
-    record {
-      least = λ rows. least-on-grid _ _ _ _ _ _ _ _ rows (search needs) (c .before .before .before .before .before .before .before .before .before .before .before .before .mark-below .ensures .closed) (marked .0) (marked .1) (c .before .before .before .before .before .before .before .before .list-candidates .ensures) (c .before .before .before .before .list-candidates2 .ensures) (c .try-names .ensures);
-      refused = λ h. absurd (omega arith);
-    }
+returns : tie.Need-returns
+returns c =
+    let args = c .before .before .before .before .before .before .before .before .before .before .before .before .before .before .before .before .before .before .before .before .before .args in
+    let close = c .before .before .before .before .before .before .before .before .before .before .before .before .mark-below .ensures in
+    let marked = two-marked (replicate markedRows 0) (args .first) (args .second) (length-replicate {A = ℕ} markedRows 0) (c .before .before .before .before .before .before .before .before .before .before .before .before .before .before .before .before .before .before .put-u32 .ensures) (c .before .before .before .before .before .before .before .before .before .before .before .before .before .before .before .put-u322 .ensures) close in
+    least-on-grid _ _ _ _ _ _ _ _ (c .before .before .before .before .before .before .before .before .before .before .before .before .before .before .before .before .before .before .before .before .before .pre) (search needs) (close .closed) (marked .0) (marked .1)
+    (c .before .before .before .before .before .before .before .before .list-candidates .ensures) (c .before .before .before .before .list-candidates2 .ensures) (c .try-names .ensures)
 
 pub least-common-spec : {M : Type 1} → statement M
 least-common-spec =
     tie.close
     (tie.spec
-    returns
-    slice-aggregate-mark
-    mark-requires
-    slice-aggregate-mark-2
-    mark-requires-2
+    slice-aggregate-put-u32
+    put-u32-requires
+    slice-aggregate-put-u32-2
+    put-u32-requires-2
     slice-aggregate-mark-below
     mark-below-requires
     slice-aggregate-list-candidates
@@ -84,4 +80,4 @@ least-common-spec =
     slice-aggregate-try-names
     slice-aggregate-try-names-2
     try-names-requires
-    returns-2)
+    returns)

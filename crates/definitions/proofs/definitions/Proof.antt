@@ -11,21 +11,12 @@ use Rattle.tables.proofs.Numbers.{one-or-none}
 use Rattle.definitions.proofs.Collecting.{definitions-none, definitions-more}
 use Rattle.definitions.proofs.definitions.Statement.{statement}
 use Rattle.definitions.proofs.definitions.Tie as tie
-use Rattle.definitions.proofs.definitions.Reads as reads
-use Rattle.definitions.proofs.definitions.Lts as lts
-use Rattle.definitions.proofs.definition_count.Reads as definition-count-reads
 
 abbrev Inv-loop : tie.InvT-loop
 Inv-loop schema rows₀ all n₀ d₀ rows n d = (d ≤ all) × (length rows ≡ length rows₀) × DefinitionsBelow schema rows n d
 
 abbrev μ-loop : tie.MeasureT-loop
 μ-loop schema rows₀ all n₀ d₀ rows n d = all - d
-
-returns : tie.Need-returns Inv-loop μ-loop
-returns c = (λ h l. absurd (omega arith), omega arith)
-
-returns-2 : tie.Need-returns-2 Inv-loop μ-loop
-returns-2 c = (λ h l. absurd (omega arith), omega arith)
 
 loop-holds : tie.Need-loop-holds Inv-loop μ-loop
 loop-holds c = (omega arith, refl, definitions-none _ _)
@@ -46,7 +37,7 @@ definition-count-requires : tie.Need-definition-count-requires Inv-loop μ-loop
 definition-count-requires c κs = search needs
 
 add-n : tie.Need-add-n Inv-loop μ-loop
-add-n c = let i = c .before .before .loop .inv in let x = i .2 .few in let m = one-or-none (isDefinition (now (c .before .before .before .before .before .before .before .args .schema)) (c .before .before .loop .d)) (c .definition-count .ensures) in omega arith
+add-n c = let i = c .before .before .loop .inv in let x = i .2 .few in let m = one-or-none (isDefinition (now (c .before .before .before .before .before .args .schema)) (c .before .before .loop .d)) (c .definition-count .ensures) in omega arith
 
 add-d : tie.Need-add-d Inv-loop μ-loop
 add-d c = search needs
@@ -64,13 +55,12 @@ loop-again c =
 same-length : tie.Need-same-length Inv-loop μ-loop
 same-length c = search needs
 
-returns-3 : tie.Need-returns-3 Inv-loop μ-loop
-returns-3 c =
+returns : tie.Need-returns Inv-loop μ-loop
+returns c =
     let i = c .before .loop .inv in
-    let x = i .2 .few in
     let y = i .0 in
-    let e : c .before .loop .d ≡ rowsOf (now (c .before .before .before .before .before .before .args .schema)) = omega (arith, i .0) in
-    (λ h l. rw e at (i .2), omega arith)
+    let e : c .before .loop .d ≡ rowsOf (now (c .before .before .before .before .args .schema)) = omega (arith, i .0) in
+    rw e at (i .2)
 
 pub definitions-spec : {M : Type 1} → statement M
 definitions-spec =
@@ -78,8 +68,6 @@ definitions-spec =
     (tie.spec
     Inv-loop
     μ-loop
-    returns
-    returns-2
     loop-holds
     cast-loop
     cast-rows
@@ -91,4 +79,4 @@ definitions-spec =
     loop-less
     loop-again
     same-length
-    returns-3)
+    returns)

@@ -6,8 +6,8 @@ use lib.ListN.{length}
 use borrow.Author.Count.{below-none, below-more}
 use Rattle.tables.proofs.Answers.{finds-none}
 use Rattle.tables.specs.Answers.{Clear}
-use Rattle.places.specs.Marks.{Marked}
-use Rattle.places.proofs.Marks.{marked-row}
+use Rattle.schema.specs.Marks.{Marked}
+use Rattle.schema.proofs.Marks.{marked-row}
 use Rattle.misplaced.proofs.first_marked.Statement.{statement}
 use Rattle.misplaced.proofs.first_marked.Tie as tie
 

@@ -14,7 +14,7 @@ use Rattle.misplaced.proofs.mark_places.Statement.{statement}
 use Rattle.misplaced.proofs.mark_places.Tie as tie
 
 abbrev Inv-loop : tie.InvT-loop
-Inv-loop schema bad₀ p₀ bad p = (length bad ≡ length bad₀) × (p ≤ suc maxRows) × Marks (Swept schema (Misplaced schema) p) bad
+Inv-loop schema bad₀ p₀ bad p = (length bad ≡ maxRows) × (p ≤ suc maxRows) × Marks (Swept schema (Misplaced schema) p) bad
 
 abbrev μ-loop : tie.MeasureT-loop
 μ-loop schema bad₀ p₀ bad p = p
@@ -29,7 +29,7 @@ cast-p : tie.Need-cast-p Inv-loop μ-loop
 cast-p c = let h = c .before .before .before .before .before .before .pre .few in omega arith
 
 loop-holds : tie.Need-loop-holds Inv-loop μ-loop
-loop-holds c = let h = c .before .before .before .before .before .before .pre .few in (refl, omega arith, rw (c .before .before .zero-u32 .ensures) (sweep-none (length (now (c .before .before .before .before .before .before .args .bad))) (row-end h)))
+loop-holds c = let h = c .before .before .before .before .before .before .pre .few in let l = c .before .before .before .before .before .before .pre .room in (omega arith, omega arith, rw (c .before .before .zero-u32 .ensures) (sweep-none (length (now (c .before .before .before .before .before .before .args .bad))) (row-end h)))
 
 sub-p : tie.Need-sub-p Inv-loop μ-loop
 sub-p c = omega arith

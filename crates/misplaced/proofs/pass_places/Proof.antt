@@ -24,7 +24,14 @@ same-length : tie.Need-same-length
 same-length c = search needs
 
 returns : tie.Need-returns
-returns c = adds-those (omega arith) _ (rw (c .before .before .before .before .before .before .before .child-a .ensures) at (c .before .before .before .before .before .before .misplaced .ensures)) (rw (c .before .before .before .before .before .child-b .ensures) at (c .before .before .before .before .misplaced2 .ensures)) (c .before .before .mark-children .ensures (omega arith))
+returns c =
+    let pre = c .before .before .before .before .before .before .before .before .before .before .pre in
+    let first = c .before .before .before .before .before .before .misplaced in
+    let second = c .before .before .before .before .misplaced2 in
+    adds-those (pre .0) (pre .1) _ (first .result) (second .result)
+    (rw (c .before .before .before .before .before .before .before .child-a .ensures) at (first .ensures))
+    (rw (c .before .before .before .before .before .child-b .ensures) at (second .ensures))
+    (c .before .before .mark-children .ensures)
 
 pub pass-places-spec : {M : Type 1} → statement M
 pass-places-spec =

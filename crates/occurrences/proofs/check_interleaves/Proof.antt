@@ -1,10 +1,7 @@
--- The size is right before rows are looked at, and at the start nothing has been compared.
-use Prim.Native.Nat.{ℕ}
-use mathlib.Core.Path.{sym}
-use lib.ListN.{length-replicate}
-use Rattle.tables.proofs.Answers.{found-none, found-at}
+-- A wrong size, or what is found in a table of the right size.
 use borrow.Author.Needs.{needs}
-use Rattle.occurrences.proofs.Comparing.{compared-none}
+use Rattle.tables.proofs.Answers.{found-none}
+use Rattle.schema.proofs.Sizes.{sized-stop, sized-on}
 use Rattle.occurrences.proofs.check_interleaves.Statement.{statement}
 use Rattle.occurrences.proofs.check_interleaves.Tie as tie
 
@@ -18,25 +15,15 @@ enum-told-2 : tie.Need-enum-told-2
 enum-told-2 c = search needs
 
 returns : tie.Need-returns
-returns c = λ right. absurd (right _ (found-at _ (c .before .before .check-size .ensures) (c .enum-told2 .given .1) .0))
-
-slice-aggregate-first-interleave : tie.Need-slice-aggregate-first-interleave
-slice-aggregate-first-interleave c = sym (length-replicate {A = ℕ} 4096 0)
+returns c = sized-stop _ _ (c .before .before .check-size .ensures) (c .enum-told2 .given .1)
 
 first-interleave-requires : tie.Need-first-interleave-requires
-first-interleave-requires c κs = (found-none _ (c .before .before .before .check-size .ensures) (c .before .enum-told .given .1), compared-none _ 4096)
+first-interleave-requires c κs = found-none _ (c .before .before .check-size .ensures) (c .enum-told .given .1)
 
 returns-2 : tie.Need-returns-2
-returns-2 c = search needs
+returns-2 c = sized-on _ _ (c .before .before .before .check-size .ensures) (c .before .enum-told .given .1) (c .first-interleave .result) (c .first-interleave .ensures)
 
 pub check-interleaves-spec : {M : Type 1} → statement M
 check-interleaves-spec =
     tie.close
-    (tie.spec
-    check-size-requires
-    enum-told
-    enum-told-2
-    returns
-    slice-aggregate-first-interleave
-    first-interleave-requires
-    returns-2)
+    (tie.spec check-size-requires enum-told enum-told-2 returns first-interleave-requires returns-2)

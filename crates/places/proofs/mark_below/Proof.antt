@@ -13,7 +13,7 @@ use Rattle.places.proofs.mark_below.Statement.{statement}
 use Rattle.places.proofs.mark_below.Tie as tie
 
 abbrev Inv-loop : tie.InvT-loop
-Inv-loop schema source marks below₀ p₀ below p = (length below ≡ length below₀) × (p ≤ suc maxRows) × Marks (Swept schema (Passed schema (IsSource schema source marks)) p) below
+Inv-loop schema source marks below₀ p₀ below p = (length below ≡ maxRows) × (p ≤ suc maxRows) × Marks (Swept schema (Passed schema (IsSource schema source marks)) p) below
 
 abbrev μ-loop : tie.MeasureT-loop
 μ-loop schema source marks below₀ p₀ below p = p
@@ -21,26 +21,14 @@ abbrev μ-loop : tie.MeasureT-loop
 zero-u32-requires : tie.Need-zero-u32-requires Inv-loop μ-loop
 zero-u32-requires c κs = search needs
 
-same-length : tie.Need-same-length Inv-loop μ-loop
-same-length c = search needs
-
-returns : tie.Need-returns Inv-loop μ-loop
-returns c = record { marks = λ h l. absurd (omega arith); many-rows = λ h. c .before .before .before .zero-u32 .ensures; no-room = λ h. c .before .before .before .zero-u32 .ensures }
-
-same-length-2 : tie.Need-same-length-2 Inv-loop μ-loop
-same-length-2 c = search needs
-
-returns-2 : tie.Need-returns-2 Inv-loop μ-loop
-returns-2 c = record { marks = λ h l. absurd (omega (arith, c .before .before .before .before .zero-u32 .kept .0)); many-rows = λ h. c .before .before .before .before .zero-u32 .ensures; no-room = λ h. c .before .before .before .before .zero-u32 .ensures }
-
 add-p : tie.Need-add-p Inv-loop μ-loop
-add-p c = omega arith
+add-p c = let h = c .before .before .before .before .before .before .before .pre .few in omega arith
 
 cast-p : tie.Need-cast-p Inv-loop μ-loop
-cast-p c = omega arith
+cast-p c = let h = c .before .before .before .before .before .before .before .pre .few in omega arith
 
 loop-holds : tie.Need-loop-holds Inv-loop μ-loop
-loop-holds c = (refl, omega arith, rw (c .before .before .before .before .zero-u32 .ensures) (sweep-none (length (now (c .before .before .before .before .before .before .before .before .before .args .below))) (row-end (c .before .if1 .left))))
+loop-holds c = let h = c .before .before .before .before .before .before .before .pre .few in let l = c .before .before .before .before .before .before .before .pre .room in (omega arith, omega arith, rw (c .before .before .zero-u32 .ensures) (sweep-none (length (now (c .before .before .before .before .before .before .before .args .below))) (row-end h)))
 
 sub-p : tie.Need-sub-p Inv-loop μ-loop
 sub-p c = omega arith
@@ -54,11 +42,11 @@ loop-less c = omega arith
 loop-again : tie.Need-loop-again Inv-loop μ-loop
 loop-again c = (omega arith, omega arith, sweep-below (omega arith) (c .before .before .before .before .before .loop .inv .2) (c .before .before .pass-below .ensures))
 
-same-length-3 : tie.Need-same-length-3 Inv-loop μ-loop
-same-length-3 c = search needs
+same-length : tie.Need-same-length Inv-loop μ-loop
+same-length c = omega arith
 
-returns-3 : tie.Need-returns-3 Inv-loop μ-loop
-returns-3 c = record { marks = λ h l. sweep-end (omega arith) (c .before .loop .inv .2); many-rows = λ h. absurd (omega arith); no-room = λ h. absurd (omega (arith, c .before .before .before .before .before .before .zero-u32 .kept .0)) }
+returns : tie.Need-returns Inv-loop μ-loop
+returns c = sweep-end (omega arith) (c .before .loop .inv .2)
 
 pub mark-below-spec : {M : Type 1} → statement M
 mark-below-spec =
@@ -67,10 +55,6 @@ mark-below-spec =
     Inv-loop
     μ-loop
     zero-u32-requires
-    same-length
-    returns
-    same-length-2
-    returns-2
     add-p
     cast-p
     loop-holds
@@ -78,5 +62,5 @@ mark-below-spec =
     pass-below-requires
     loop-less
     loop-again
-    same-length-3
-    returns-3)
+    same-length
+    returns)

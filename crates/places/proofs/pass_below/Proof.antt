@@ -1,5 +1,4 @@
 -- Both children are wanted where p is a source or below one.
-use native.Mathlib.Omega.{arith}
 use borrow.Author.Needs.{needs}
 use Rattle.places.proofs.Marks.{adds-those}
 use Rattle.places.proofs.pass_below.Statement.{statement}
@@ -15,7 +14,10 @@ same-length : tie.Need-same-length
 same-length c = search needs
 
 returns : tie.Need-returns
-returns c = adds-those (omega arith) _ (c .before .before .before .before .passes .ensures) (c .before .before .before .before .passes .ensures) (c .before .before .mark-children .ensures (omega arith))
+returns c =
+    let pre = c .before .before .before .before .before .before .before .before .before .pre in
+    let passes = c .before .before .before .before .passes in
+    adds-those (pre .0) (pre .1) _ (passes .result) (passes .result) (passes .ensures) (passes .ensures) (c .before .before .mark-children .ensures)
 
 pub pass-below-spec : {M : Type 1} → statement M
 pass-below-spec = tie.close (tie.spec passes-requires mark-children-requires same-length returns)

@@ -1,5 +1,4 @@
 -- The marked rows are those below a row of the kind.
-use lib.Dec.{lit≤}
 use Rattle.prohibited.proofs.Faults.{finds-below}
 use borrow.Author.Needs.{needs}
 use Rattle.prohibited.proofs.first_below.Statement.{statement}
@@ -18,7 +17,7 @@ first-marked-requires : tie.Need-first-marked-requires
 first-marked-requires c κs = search needs
 
 returns : tie.Need-returns
-returns c = finds-below _ (c .first-marked .result) (c .before .before .before .mark-below .ensures .marks (c .before .before .before .before .before .before .pre) (lit≤ tt)) (c .first-marked .ensures)
+returns c = finds-below _ (c .first-marked .result) (c .before .before .before .mark-below .ensures) (c .first-marked .ensures)
 
 pub first-below-spec : {M : Type 1} → statement M
 first-below-spec =

@@ -11,7 +11,7 @@ use borrow.Author.Needs.{needs}
 use Rattle.tables.proofs.Answers.{finds-none}
 use Rattle.tables.specs.Answers.{Clear}
 use Rattle.prohibited.specs.Prohibited.{MarkedKind}
-use Rattle.places.proofs.Marks.{marked-row}
+use Rattle.schema.proofs.Marks.{marked-row}
 use Rattle.prohibited.proofs.first_marked.Statement.{statement}
 use Rattle.prohibited.proofs.first_marked.Tie as tie
 

@@ -1,5 +1,4 @@
 -- The marked pairs are those below a oneOrMore, and the rows marked in the end those below such a pair.
-use lib.Dec.{lit≤}
 use Rattle.prohibited.proofs.Faults.{finds-below, marks-repeated}
 use borrow.Author.Needs.{needs}
 use Rattle.prohibited.proofs.first_repeated.Statement.{statement}
@@ -27,7 +26,7 @@ first-marked-requires : tie.Need-first-marked-requires
 first-marked-requires c κs = search needs
 
 returns : tie.Need-returns
-returns c = finds-below _ (c .first-marked .result) (marks-repeated (c .before .before .before .before .before .before .before .mark-below .ensures .marks (c .before .before .before .before .before .before .before .before .before .before .pre) (lit≤ tt)) (c .before .before .before .mark-below2 .ensures .marks (c .before .before .before .before .before .before .before .before .before .before .pre) (lit≤ tt))) (c .first-marked .ensures)
+returns c = finds-below _ (c .first-marked .result) (marks-repeated (c .before .before .before .before .before .before .before .mark-below .ensures) (c .before .before .before .mark-below2 .ensures)) (c .first-marked .ensures)
 
 pub first-repeated-spec : {M : Type 1} → statement M
 first-repeated-spec =

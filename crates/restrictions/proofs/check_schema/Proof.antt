@@ -2,7 +2,8 @@
 use borrow.Author.Needs.{needs}
 use Rattle.tables.proofs.Answers.{found-none}
 use Rattle.tables.proofs.Chain.{on, stops, last-code}
-use Rattle.schema.proofs.RowLaws.{few-rows, right-size}
+use Rattle.schema.proofs.RowLaws.{right-size}
+use Rattle.schema.proofs.Sizes.{sized-finds}
 use Rattle.restrictions.proofs.check_schema.Statement.{statement}
 use Rattle.restrictions.proofs.check_schema.Tie as tie
 
@@ -41,7 +42,7 @@ returns-2 c =
     let check-places = c .before .before .before .check-places in
     let right = right-size (found-none _ (check-rows .ensures) (c .before .before .before .before .enum-told .given .1)) in
     on 2 (check-rows .ensures) (c .before .before .before .before .enum-told .given .1)
-    (stops 3 (check-places .ensures .finds (few-rows right)) (c .before .enum-told4 .given .1) (c .refusal2 .ensures))
+    (stops 3 (sized-finds _ _ right (check-places .result) (check-places .ensures)) (c .before .enum-told4 .given .1) (c .refusal2 .ensures))
 
 check-names-requires : tie.Need-check-names-requires
 check-names-requires c κs = search needs
@@ -62,8 +63,8 @@ returns-3 c =
     let check-names = c .before .before .before .check-names in
     let right = right-size (found-none _ (check-rows .ensures) (c .before .before .before .before .before .before .before .enum-told .given .1)) in
     on 2 (check-rows .ensures) (c .before .before .before .before .before .before .before .enum-told .given .1)
-    (on 3 (check-places .ensures .finds (few-rows right)) (c .before .before .before .before .enum-told3 .given .1)
-    (stops 4 (check-names .ensures .finds (few-rows right)) (c .before .enum-told6 .given .1) (c .refusal3 .ensures)))
+    (on 3 (sized-finds _ _ right (check-places .result) (check-places .ensures)) (c .before .before .before .before .enum-told3 .given .1)
+    (stops 4 (sized-finds _ _ right (check-names .result) (check-names .ensures)) (c .before .enum-told6 .given .1) (c .refusal3 .ensures)))
 
 check-paths-requires : tie.Need-check-paths-requires
 check-paths-requires c κs = search needs
@@ -85,9 +86,9 @@ returns-4 c =
     let check-paths = c .before .before .before .check-paths in
     let right = right-size (found-none _ (check-rows .ensures) (c .before .before .before .before .before .before .before .before .before .before .enum-told .given .1)) in
     on 2 (check-rows .ensures) (c .before .before .before .before .before .before .before .before .before .before .enum-told .given .1)
-    (on 3 (check-places .ensures .finds (few-rows right)) (c .before .before .before .before .before .before .before .enum-told3 .given .1)
-    (on 4 (check-names .ensures .finds (few-rows right)) (c .before .before .before .before .enum-told5 .given .1)
-    (stops 5 (check-paths .ensures .finds (few-rows right)) (c .before .enum-told8 .given .1) (c .refusal4 .ensures))))
+    (on 3 (sized-finds _ _ right (check-places .result) (check-places .ensures)) (c .before .before .before .before .before .before .before .enum-told3 .given .1)
+    (on 4 (sized-finds _ _ right (check-names .result) (check-names .ensures)) (c .before .before .before .before .enum-told5 .given .1)
+    (stops 5 (sized-finds _ _ right (check-paths .result) (check-paths .ensures)) (c .before .enum-told8 .given .1) (c .refusal4 .ensures))))
 
 check-content-requires : tie.Need-check-content-requires
 check-content-requires c κs = search needs
@@ -110,10 +111,10 @@ returns-5 c =
     let check-content = c .before .before .before .check-content in
     let right = right-size (found-none _ (check-rows .ensures) (c .before .before .before .before .before .before .before .before .before .before .before .before .before .enum-told .given .1)) in
     on 2 (check-rows .ensures) (c .before .before .before .before .before .before .before .before .before .before .before .before .before .enum-told .given .1)
-    (on 3 (check-places .ensures .finds (few-rows right)) (c .before .before .before .before .before .before .before .before .before .before .enum-told3 .given .1)
-    (on 4 (check-names .ensures .finds (few-rows right)) (c .before .before .before .before .before .before .before .enum-told5 .given .1)
-    (on 5 (check-paths .ensures .finds (few-rows right)) (c .before .before .before .before .enum-told7 .given .1)
-    (stops 6 (check-content .ensures right) (c .before .enum-told10 .given .1) (c .refusal5 .ensures)))))
+    (on 3 (sized-finds _ _ right (check-places .result) (check-places .ensures)) (c .before .before .before .before .before .before .before .before .before .before .enum-told3 .given .1)
+    (on 4 (sized-finds _ _ right (check-names .result) (check-names .ensures)) (c .before .before .before .before .before .before .before .enum-told5 .given .1)
+    (on 5 (sized-finds _ _ right (check-paths .result) (check-paths .ensures)) (c .before .before .before .before .enum-told7 .given .1)
+    (stops 6 (sized-finds _ _ right (check-content .result) (check-content .ensures)) (c .before .enum-told10 .given .1) (c .refusal5 .ensures)))))
 
 check-attributes-requires : tie.Need-check-attributes-requires
 check-attributes-requires c κs = search needs
@@ -137,11 +138,11 @@ returns-6 c =
     let check-attributes = c .before .before .before .check-attributes in
     let right = right-size (found-none _ (check-rows .ensures) (c .before .before .before .before .before .before .before .before .before .before .before .before .before .before .before .before .enum-told .given .1)) in
     on 2 (check-rows .ensures) (c .before .before .before .before .before .before .before .before .before .before .before .before .before .before .before .before .enum-told .given .1)
-    (on 3 (check-places .ensures .finds (few-rows right)) (c .before .before .before .before .before .before .before .before .before .before .before .before .before .enum-told3 .given .1)
-    (on 4 (check-names .ensures .finds (few-rows right)) (c .before .before .before .before .before .before .before .before .before .before .enum-told5 .given .1)
-    (on 5 (check-paths .ensures .finds (few-rows right)) (c .before .before .before .before .before .before .before .enum-told7 .given .1)
-    (on 6 (check-content .ensures right) (c .before .before .before .before .enum-told9 .given .1)
-    (stops 7 (check-attributes .ensures right) (c .before .enum-told12 .given .1) (c .refusal6 .ensures))))))
+    (on 3 (sized-finds _ _ right (check-places .result) (check-places .ensures)) (c .before .before .before .before .before .before .before .before .before .before .before .before .before .enum-told3 .given .1)
+    (on 4 (sized-finds _ _ right (check-names .result) (check-names .ensures)) (c .before .before .before .before .before .before .before .before .before .before .enum-told5 .given .1)
+    (on 5 (sized-finds _ _ right (check-paths .result) (check-paths .ensures)) (c .before .before .before .before .before .before .before .enum-told7 .given .1)
+    (on 6 (sized-finds _ _ right (check-content .result) (check-content .ensures)) (c .before .before .before .before .enum-told9 .given .1)
+    (stops 7 (sized-finds _ _ right (check-attributes .result) (check-attributes .ensures)) (c .before .enum-told12 .given .1) (c .refusal6 .ensures))))))
 
 check-interleaves-requires : tie.Need-check-interleaves-requires
 check-interleaves-requires c κs = search needs
@@ -160,12 +161,12 @@ returns-7 c =
     let check-interleaves = c .before .check-interleaves in
     let right = right-size (found-none _ (check-rows .ensures) (c .before .before .before .before .before .before .before .before .before .before .before .before .before .before .before .before .before .enum-told .given .1)) in
     on 2 (check-rows .ensures) (c .before .before .before .before .before .before .before .before .before .before .before .before .before .before .before .before .before .enum-told .given .1)
-    (on 3 (check-places .ensures .finds (few-rows right)) (c .before .before .before .before .before .before .before .before .before .before .before .before .before .before .enum-told3 .given .1)
-    (on 4 (check-names .ensures .finds (few-rows right)) (c .before .before .before .before .before .before .before .before .before .before .before .enum-told5 .given .1)
-    (on 5 (check-paths .ensures .finds (few-rows right)) (c .before .before .before .before .before .before .before .before .enum-told7 .given .1)
-    (on 6 (check-content .ensures right) (c .before .before .before .before .before .enum-told9 .given .1)
-    (on 7 (check-attributes .ensures right) (c .before .before .enum-told11 .given .1)
-    (last-code 8 (check-interleaves .result) (check-interleaves .ensures right) (c .refusal7 .ensures)))))))
+    (on 3 (sized-finds _ _ right (check-places .result) (check-places .ensures)) (c .before .before .before .before .before .before .before .before .before .before .before .before .before .before .enum-told3 .given .1)
+    (on 4 (sized-finds _ _ right (check-names .result) (check-names .ensures)) (c .before .before .before .before .before .before .before .before .before .before .before .enum-told5 .given .1)
+    (on 5 (sized-finds _ _ right (check-paths .result) (check-paths .ensures)) (c .before .before .before .before .before .before .before .before .enum-told7 .given .1)
+    (on 6 (sized-finds _ _ right (check-content .result) (check-content .ensures)) (c .before .before .before .before .before .enum-told9 .given .1)
+    (on 7 (sized-finds _ _ right (check-attributes .result) (check-attributes .ensures)) (c .before .before .enum-told11 .given .1)
+    (last-code 8 (check-interleaves .result) (sized-finds _ _ right (check-interleaves .result) (check-interleaves .ensures)) (c .refusal7 .ensures)))))))
 
 pub check-schema-spec : {M : Type 1} → statement M
 check-schema-spec =

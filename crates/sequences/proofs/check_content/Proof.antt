@@ -1,7 +1,7 @@
--- A table of the right size has room for the type of every row.
-use mathlib.Core.Path.{refl}
-use Rattle.tables.proofs.Answers.{found-none, found-at}
+-- A wrong size, or what is found in a table of the right size.
 use borrow.Author.Needs.{needs}
+use Rattle.tables.proofs.Answers.{found-none}
+use Rattle.schema.proofs.Sizes.{sized-stop, sized-on}
 use Rattle.sequences.proofs.check_content.Statement.{statement}
 use Rattle.sequences.proofs.check_content.Tie as tie
 
@@ -15,25 +15,15 @@ enum-told-2 : tie.Need-enum-told-2
 enum-told-2 c = search needs
 
 returns : tie.Need-returns
-returns c = λ right. absurd (right _ (found-at _ (c .before .before .check-size .ensures) (c .enum-told2 .given .1) .0))
-
-slice-aggregate-first-clash : tie.Need-slice-aggregate-first-clash
-slice-aggregate-first-clash c = search needs
+returns c = sized-stop _ _ (c .before .before .check-size .ensures) (c .enum-told2 .given .1)
 
 first-clash-requires : tie.Need-first-clash-requires
-first-clash-requires c κs = (found-none _ (c .before .before .before .check-size .ensures) (c .before .enum-told .given .1), refl)
+first-clash-requires c κs = found-none _ (c .before .before .check-size .ensures) (c .enum-told .given .1)
 
 returns-2 : tie.Need-returns-2
-returns-2 c = search needs
+returns-2 c = sized-on _ _ (c .before .before .before .check-size .ensures) (c .before .enum-told .given .1) (c .first-clash .result) (c .first-clash .ensures)
 
 pub check-content-spec : {M : Type 1} → statement M
 check-content-spec =
     tie.close
-    (tie.spec
-    check-size-requires
-    enum-told
-    enum-told-2
-    returns
-    slice-aggregate-first-clash
-    first-clash-requires
-    returns-2)
+    (tie.spec check-size-requires enum-told enum-told-2 returns first-clash-requires returns-2)

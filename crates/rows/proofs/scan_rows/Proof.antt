@@ -11,8 +11,8 @@ use Rattle.tables.specs.Answers.{Clear}
 use Rattle.rows.proofs.Tests.{row-tested}
 use Rattle.schema.specs.RowRule.{WrongRow}
 use Rattle.schema.specs.Rows.{rowsOf}
-use Rattle.rows.proofs.first_wrong_row.Statement.{statement}
-use Rattle.rows.proofs.first_wrong_row.Tie as tie
+use Rattle.rows.proofs.scan_rows.Statement.{statement}
+use Rattle.rows.proofs.scan_rows.Tie as tie
 
 abbrev Inv-loop : tie.InvT-loop
 Inv-loop strings schema counts rows r₀ r = (r ≤ rowsOf schema) × Clear (WrongRow strings schema) r
@@ -50,8 +50,8 @@ loop-again c = (omega arith, below-more _ _ (c .before .before .before .before .
 returns-2 : tie.Need-returns-2 Inv-loop μ-loop
 returns-2 c = finds-none _ (c .before .loop .inv .1) (λ k f. omega (arith, f .0))
 
-pub first-wrong-row-spec : {M : Type 1} → statement M
-first-wrong-row-spec =
+pub scan-rows-spec : {M : Type 1} → statement M
+scan-rows-spec =
     tie.close
     (tie.spec
     Inv-loop

@@ -12,8 +12,8 @@ use Rattle.sequences.specs.TypeTable.{Types}
 use Rattle.schema.proofs.RowLaws.{few-rows}
 use Rattle.schema.specs.RowRule.{maxRows}
 use Rattle.schema.specs.Rows.{rowsOf}
-use Rattle.sequences.proofs.first_clash.Statement.{statement}
-use Rattle.sequences.proofs.first_clash.Tie as tie
+use Rattle.sequences.proofs.scan_types.Statement.{statement}
+use Rattle.sequences.proofs.scan_types.Tie as tie
 
 abbrev Inv-loop : tie.InvT-loop
 Inv-loop schema types₀ rows r₀ types r = (r ≤ rowsOf schema) × Types schema types r × Clear (SequenceFault schema) r
@@ -54,8 +54,8 @@ same-length-2 c = c .before .loop .inv .1 .size ∙ sym (ap length (c .before .b
 returns-2 : tie.Need-returns-2 Inv-loop μ-loop
 returns-2 c = finds-none _ (c .before .loop .inv .2) (λ k f. omega (arith, sequence-row (c .before .before .before .before .pre .0) f))
 
-pub first-clash-spec : {M : Type 1} → statement M
-first-clash-spec =
+pub scan-types-spec : {M : Type 1} → statement M
+scan-types-spec =
     tie.close
     (tie.spec
     Inv-loop

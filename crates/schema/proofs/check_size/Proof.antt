@@ -1,10 +1,10 @@
 -- Each test that fails leaves its fact.
 use mathlib.Core.Path.{refl}
 use borrow.Author.Count.{below-none}
-use Rattle.rows.proofs.Tests.{size-right}
+use Rattle.schema.proofs.Sizes.{size-right}
 use Rattle.schema.specs.RowRule.{no-row, too-many-rows, broken-length}
-use Rattle.rows.proofs.check_size.Statement.{statement}
-use Rattle.rows.proofs.check_size.Tie as tie
+use Rattle.schema.proofs.check_size.Statement.{statement}
+use Rattle.schema.proofs.check_size.Tie as tie
 
 returns : tie.Need-returns
 returns c = (no-row (c .if1 .taken) refl, below-none _)

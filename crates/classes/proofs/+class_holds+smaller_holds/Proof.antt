@@ -14,18 +14,18 @@ use Rattle.classes.specs.Membership.{holds}
 use Rattle.classes.proofs.Holds.{Read, holds-16, holds-17, holds-18, holds-19, holds-other}
 use Rattle.classes.proofs.class_holds.Reads as class-holds
 use Rattle.classes.proofs.class_holds.Kinds as class-holds-kinds
-use Rattle.classes.proofs.+class_holds+except_holds.Lts-class_holds as class-holds-lts
-use Rattle.classes.proofs.except_holds.Reads as except-holds
-use Rattle.classes.proofs.except_holds.Kinds as except-holds-kinds
-use Rattle.classes.proofs.+class_holds+except_holds.Lts-except_holds as except-holds-lts
-use Rattle.classes.proofs.+class_holds+except_holds.{statement}
-use Rattle.classes.proofs.+class_holds+except_holds.Tie.{close}
+use Rattle.classes.proofs.+class_holds+smaller_holds.Lts-class_holds as class-holds-lts
+use Rattle.classes.proofs.smaller_holds.Reads as smaller-holds
+use Rattle.classes.proofs.smaller_holds.Kinds as smaller-holds-kinds
+use Rattle.classes.proofs.+class_holds+smaller_holds.Lts-smaller_holds as smaller-holds-lts
+use Rattle.classes.proofs.+class_holds+smaller_holds.{statement}
+use Rattle.classes.proofs.+class_holds+smaller_holds.Tie.{close}
 
 abbrev μ-class-holds : Measures 1 class-holds-kinds.ps ℕ
 μ-class-holds κs a = 2 * a .1 .0 + 1
 
-abbrev μ-except-holds : Measures 1 except-holds-kinds.ps ℕ
-μ-except-holds κs a = 2 * a .1 .0
+abbrev μ-smaller-holds : Measures 1 smaller-holds-kinds.ps ℕ
+μ-smaller-holds κs a = 2 * a .1 .0
 
 module _ (t : ℕ) where
   abbrev class-holds-at : In 1 class-holds-kinds.ps
@@ -36,20 +36,20 @@ module _ (t : ℕ) where
   class-holds-below =
       and 1 class-holds-kinds.ps (falls 1 class-holds-kinds.ps _<_ μ-class-holds t) class-holds.Pre
 
-  abbrev except-holds-at : In 1 except-holds-kinds.ps
-  except-holds-at =
-      and 1 except-holds-kinds.ps (is 1 except-holds-kinds.ps μ-except-holds t) except-holds.Pre
+  abbrev smaller-holds-at : In 1 smaller-holds-kinds.ps
+  smaller-holds-at =
+      and 1 smaller-holds-kinds.ps (is 1 smaller-holds-kinds.ps μ-smaller-holds t) smaller-holds.Pre
 
-  abbrev except-holds-below : In 1 except-holds-kinds.ps
-  except-holds-below =
-      and 1 except-holds-kinds.ps (falls 1 except-holds-kinds.ps _<_ μ-except-holds t) except-holds.Pre
+  abbrev smaller-holds-below : In 1 smaller-holds-kinds.ps
+  smaller-holds-below =
+      and 1 smaller-holds-kinds.ps (falls 1 smaller-holds-kinds.ps _<_ μ-smaller-holds t) smaller-holds.Pre
 
   abbrev class-holds-calls : class-holds-lts.Claims
   class-holds-calls =
-      (kind-reads.Asked, kind-reads.Learnt, field-a-reads.Asked, field-a-reads.Learnt, field-b-reads.Asked, field-b-reads.Learnt, except-holds-below, except-holds.Post)
+      (kind-reads.Asked, kind-reads.Learnt, field-a-reads.Asked, field-a-reads.Learnt, field-b-reads.Asked, field-b-reads.Learnt, smaller-holds-below, smaller-holds.Post)
 
-  abbrev except-holds-calls : except-holds-lts.Claims
-  except-holds-calls = (class-holds-below, class-holds.Post)
+  abbrev smaller-holds-calls : smaller-holds-lts.Claims
+  smaller-holds-calls = (class-holds-below, class-holds.Post)
 
   read :
       (c : class-holds-lts.After-field-b class-holds-calls class-holds-at class-holds.Post) →
@@ -65,23 +65,23 @@ module _ (t : ℕ) where
   class-holds-field-b-requires : class-holds-lts.Need-field-b-requires class-holds-calls class-holds-at class-holds.Post
   class-holds-field-b-requires c κs = tt
 
-  class-holds-except-holds-requires : class-holds-lts.Need-except-holds-requires class-holds-calls class-holds-at class-holds.Post
-  class-holds-except-holds-requires c κs = (omega arith, tt)
+  class-holds-smaller-holds-requires : class-holds-lts.Need-smaller-holds-requires class-holds-calls class-holds-at class-holds.Post
+  class-holds-smaller-holds-requires c κs = (omega arith, tt)
 
-  class-holds-except-holds-requires-2 : class-holds-lts.Need-except-holds-requires-2 class-holds-calls class-holds-at class-holds.Post
-  class-holds-except-holds-requires-2 c κs = (omega arith, tt)
+  class-holds-smaller-holds-requires-2 : class-holds-lts.Need-smaller-holds-requires-2 class-holds-calls class-holds-at class-holds.Post
+  class-holds-smaller-holds-requires-2 c κs = (omega arith, tt)
 
-  class-holds-except-holds-requires-3 : class-holds-lts.Need-except-holds-requires-3 class-holds-calls class-holds-at class-holds.Post
-  class-holds-except-holds-requires-3 c κs = (omega arith, tt)
+  class-holds-smaller-holds-requires-3 : class-holds-lts.Need-smaller-holds-requires-3 class-holds-calls class-holds-at class-holds.Post
+  class-holds-smaller-holds-requires-3 c κs = (omega arith, tt)
 
-  class-holds-except-holds-requires-4 : class-holds-lts.Need-except-holds-requires-4 class-holds-calls class-holds-at class-holds.Post
-  class-holds-except-holds-requires-4 c κs = (omega arith, tt)
+  class-holds-smaller-holds-requires-4 : class-holds-lts.Need-smaller-holds-requires-4 class-holds-calls class-holds-at class-holds.Post
+  class-holds-smaller-holds-requires-4 c κs = (omega arith, tt)
 
   class-holds-returns : class-holds-lts.Need-returns class-holds-calls class-holds-at class-holds.Post
-  class-holds-returns c = rw (holds-16 _ (c .before .before .before .before .before .before .args .namespace) (c .before .before .before .before .before .before .args .local) _ (read (c .before .before)) (omega arith) (c .before .match .keys1)) (ap not (c .except-holds .ensures))
+  class-holds-returns c = rw (holds-16 _ (c .before .before .before .before .before .before .args .namespace) (c .before .before .before .before .before .before .args .local) _ (read (c .before .before)) (omega arith) (c .before .match .keys1)) (ap not (c .smaller-holds .ensures))
 
   class-holds-returns-2 : class-holds-lts.Need-returns-2 class-holds-calls class-holds-at class-holds.Post
-  class-holds-returns-2 c = rw (holds-17 _ (c .before .before .before .before .before .before .before .args .namespace) (c .before .before .before .before .before .before .before .args .local) _ (read (c .before .before .before)) (omega arith) (c .before .before .match .keys2), eq-eqb _ _ (c .before .if1 .taken)) (ap not (c .except-holds2 .ensures))
+  class-holds-returns-2 c = rw (holds-17 _ (c .before .before .before .before .before .before .before .args .namespace) (c .before .before .before .before .before .before .before .args .local) _ (read (c .before .before .before)) (omega arith) (c .before .before .match .keys2), eq-eqb _ _ (c .before .if1 .taken)) (ap not (c .smaller-holds2 .ensures))
 
   class-holds-returns-3 : class-holds-lts.Need-returns-3 class-holds-calls class-holds-at class-holds.Post
   class-holds-returns-3 c = rw (holds-17 _ (c .before .before .before .before .before .before .args .namespace) (c .before .before .before .before .before .before .args .local) _ (read (c .before .before)) (omega arith) (c .before .match .keys2), ne-eqb _ _ (c .if1 .left))
@@ -93,29 +93,29 @@ module _ (t : ℕ) where
   class-holds-returns-5 c = rw (holds-18 _ (c .before .before .before .before .before .before .args .namespace) (c .before .before .before .before .before .before .args .local) _ (read (c .before .before)) (c .before .match .keys3), ne-eqb _ _ (c .if2 .left))
 
   class-holds-returns-6 : class-holds-lts.Need-returns-6 class-holds-calls class-holds-at class-holds.Post
-  class-holds-returns-6 c = rw (holds-19 _ (c .before .before .before .before .before .before .before .args .namespace) (c .before .before .before .before .before .before .before .args .local) _ (read (c .before .before .before)) (c .before .before .match .keys4), ← c .before .except-holds3 .ensures, c .if3 .taken)
+  class-holds-returns-6 c = rw (holds-19 _ (c .before .before .before .before .before .before .before .args .namespace) (c .before .before .before .before .before .before .before .args .local) _ (read (c .before .before .before)) (c .before .before .match .keys4), ← c .before .smaller-holds3 .ensures, c .if3 .taken)
 
   class-holds-returns-7 : class-holds-lts.Need-returns-7 class-holds-calls class-holds-at class-holds.Post
-  class-holds-returns-7 c = rw (holds-19 _ (c .before .before .before .before .before .before .before .before .args .namespace) (c .before .before .before .before .before .before .before .before .args .local) _ (read (c .before .before .before .before)) (c .before .before .before .match .keys4), ← c .before .before .except-holds3 .ensures, c .before .if3 .left) (c .except-holds4 .ensures)
+  class-holds-returns-7 c = rw (holds-19 _ (c .before .before .before .before .before .before .before .before .args .namespace) (c .before .before .before .before .before .before .before .before .args .local) _ (read (c .before .before .before .before)) (c .before .before .before .match .keys4), ← c .before .before .smaller-holds3 .ensures, c .before .if3 .left) (c .smaller-holds4 .ensures)
 
   class-holds-returns-8 : class-holds-lts.Need-returns-8 class-holds-calls class-holds-at class-holds.Post
   class-holds-returns-8 c = let rest = c .match .rest in sym (holds-other _ (c .before .before .before .before .before .args .namespace) (c .before .before .before .before .before .args .local) _ (read (c .before)) (rest .0 .0 .0 .1) (rest .0 .0 .1) (rest .0 .1) (rest .1))
 
-  except-holds-class-holds-requires : except-holds-lts.Need-class-holds-requires except-holds-calls except-holds-at except-holds.Post
-  except-holds-class-holds-requires c κs = (omega arith, tt)
+  smaller-holds-class-holds-requires : smaller-holds-lts.Need-class-holds-requires smaller-holds-calls smaller-holds-at smaller-holds.Post
+  smaller-holds-class-holds-requires c κs = (omega arith, tt)
 
-  except-holds-returns : except-holds-lts.Need-returns except-holds-calls except-holds-at except-holds.Post
+  smaller-holds-returns : smaller-holds-lts.Need-returns smaller-holds-calls smaller-holds-at smaller-holds.Post
   unfolding holds
-  except-holds-returns c = c .class-holds .ensures ∙ sym (upto-below _ _ _ (c .before .if1 .taken))
+  smaller-holds-returns c = c .class-holds .ensures ∙ sym (upto-below _ _ _ (c .before .if1 .taken))
 
-  except-holds-returns-2 : except-holds-lts.Need-returns-2 except-holds-calls except-holds-at except-holds.Post
-  except-holds-returns-2 c = sym (upto-above _ _ _ (c .if1 .left))
+  smaller-holds-returns-2 : smaller-holds-lts.Need-returns-2 smaller-holds-calls smaller-holds-at smaller-holds.Post
+  smaller-holds-returns-2 c = sym (upto-above _ _ _ (c .if1 .left))
 
-pub +class-holds+except-holds-spec : {M : Type 1} → statement M
-+class-holds+except-holds-spec =
+pub +class-holds+smaller-holds-spec : {M : Type 1} → statement M
++class-holds+smaller-holds-spec =
     close
     μ-class-holds
-    μ-except-holds
+    μ-smaller-holds
     (λ t. class-holds-lts.spec
     (class-holds-calls t)
     (class-holds-at t)
@@ -123,10 +123,10 @@ pub +class-holds+except-holds-spec : {M : Type 1} → statement M
     (class-holds-kind-requires t)
     (class-holds-field-a-requires t)
     (class-holds-field-b-requires t)
-    (class-holds-except-holds-requires t)
-    (class-holds-except-holds-requires-2 t)
-    (class-holds-except-holds-requires-3 t)
-    (class-holds-except-holds-requires-4 t)
+    (class-holds-smaller-holds-requires t)
+    (class-holds-smaller-holds-requires-2 t)
+    (class-holds-smaller-holds-requires-3 t)
+    (class-holds-smaller-holds-requires-4 t)
     (class-holds-returns t)
     (class-holds-returns-2 t)
     (class-holds-returns-3 t)
@@ -135,10 +135,10 @@ pub +class-holds+except-holds-spec : {M : Type 1} → statement M
     (class-holds-returns-6 t)
     (class-holds-returns-7 t)
     (class-holds-returns-8 t))
-    (λ t. except-holds-lts.spec
-    (except-holds-calls t)
-    (except-holds-at t)
-    except-holds.Post
-    (except-holds-class-holds-requires t)
-    (except-holds-returns t)
-    (except-holds-returns-2 t))
+    (λ t. smaller-holds-lts.spec
+    (smaller-holds-calls t)
+    (smaller-holds-at t)
+    smaller-holds.Post
+    (smaller-holds-class-holds-requires t)
+    (smaller-holds-returns t)
+    (smaller-holds-returns-2 t))
