@@ -13,7 +13,8 @@ use Rattle.instance.specs.Width.{maxWidth}
 use Rattle.sets.specs.Bits.{bit}
 use Rattle.marks.specs.Marks.{attributeRow}
 
--- the n rows right after element e are its attributes, and the next is none of them; no more are counted than one above what an element may have
+-- the n rows right after element e are its attributes, and the next is none of them; where there are more than an
+-- element may have, n is one more than that
 pub record Counted (t : List ℕ) (e n : ℕ) : Type 0 where
   pub attributes : (x : ℕ) → x < n → isAttribute t e (attributeRow e x) ≡ true
   pub few : n ≤ suc maxWidth

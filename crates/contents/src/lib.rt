@@ -59,7 +59,8 @@ fn add_child(instance: &[u32], e: u32, r: u32, n: u32, rows: &mut [u32]) -> u32
     n
 }
 
-// The rows of the children of element e, and how many there are. Past the first row whose parent comes before e there is none: the rows of e's descendants stand together.
+// The rows of the children of element e, and how many there are. Past the first row whose parent comes before e there
+// is none: the rows of e's descendants stand together.
 pub fn children(instance: &[u32], e: u32, rows: &mut [u32]) -> u32
     requires { ⌜ RightRow (now instance) e ⌝ }
     ensures { λ n. ⌜ Begins (now (rows .entry)) (now (rows .exit)) (childrenOf (now (instance .entry)) e) n ⌝ }

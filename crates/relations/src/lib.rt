@@ -1,4 +1,5 @@
-// Relations on m positions as m words; a second relation starts at word POSITIONS. A caller shows that m is no more than that and that the words are there. A function writes the first m words only.
+// Relations on m positions as m words; a second relation starts at word POSITIONS. A caller shows that m is no more
+// than POSITIONS and that the words are there; a function writes the first m words only.
 ghost use mathlib.Core.Path.{_≡_};
 ghost use mathlib.Core.Bool.{cond};
 ghost use Prim.Native.Nat.{_+_, _^_, _<_};
