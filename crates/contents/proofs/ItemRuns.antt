@@ -9,6 +9,7 @@ use native.Mathlib.Decide.{decLt}
 use lib.Dec.{eqb, ltb}
 use lib.ListN.{length, getD, length-map, List·getD-map}
 use borrow.Author.Tests.{lt-ltb, le-ltb, eqb-true}
+use Rattle.tables.specs.Tables.{StringTable, tablesOf}
 use Rattle.tables.proofs.Numbers.{not-less}
 use Rattle.instance.specs.Nodes.{element, text, nodesOf, kindOf, aOf, isChild}
 use Rattle.instance.specs.Width.{maxWidth, WidthFault}
@@ -95,27 +96,27 @@ module _ {t : List ℕ} {e : ℕ} {items : List ℕ} {n texts elements : ℕ} (c
           is-element i (c .texts-at k ∙ rw (lt-ltb k n h, f)) (c .each k h ∙ rw f)
       go (inr j) = is-text j (rw j refl) (c .texts-at k ∙ rw (lt-ltb k n h, j)) (c .each k h ∙ rw j)
 
-  module _ (bytes ends s : List ℕ) where
-    pub item-at : (k : ℕ) → k < n → itemAt bytes ends items texts k ≡ itemOf bytes ends s t (row k)
+  module _ (T : StringTable) (s : List ℕ) where
+    pub item-at : (k : ℕ) → k < n → itemAt T items texts k ≡ itemOf (tablesOf T s t) (row k)
     item-at k h = go (kind-at k h)
       where
-        go : Kind k → itemAt bytes ends items texts k ≡ itemOf bytes ends s t (row k)
+        go : Kind k → itemAt T items texts k ≡ itemOf (tablesOf T s t) (row k)
         go (is-text j f b i) = rw (b, f, i)
         go (is-element i b j) = rw (b, i, j)
 
     -- the items that pass a test
-    pub run-contents : (P : Item → Bool) (w : ℕ) → ((k : ℕ) → bit w k ≡ (ltb k n && P (itemAt bytes ends items texts k))) → run (itemAt bytes ends items texts) (bit w) 0 n ≡ kept P (lookups bytes ends s t .children e)
+    pub run-contents : (P : Item → Bool) (w : ℕ) → ((k : ℕ) → bit w k ≡ (ltb k n && P (itemAt T items texts k))) → run (itemAt T items texts) (bit w) 0 n ≡ kept P (lookups bytes ends s t .children e)
     run-contents P w f =
-        run-members P (itemOf bytes ends s t 0) (map (itemOf bytes ends s t) (childrenOf t e)) (itemAt bytes ends items texts) (bit w) n (omega (arith, size)) at tested past
+        run-members P (itemOf (tablesOf T s t) 0) (map (itemOf (tablesOf T s t)) (childrenOf t e)) (itemAt T items texts) (bit w) n (omega (arith, size)) at tested past
       where
-        size : length (map (itemOf bytes ends s t) (childrenOf t e)) ≡ n
-        size = length-map (childrenOf t e) (itemOf bytes ends s t) ∙ sym (c .count)
+        size : length (map (itemOf (tablesOf T s t)) (childrenOf t e)) ≡ n
+        size = length-map (childrenOf t e) (itemOf (tablesOf T s t)) ∙ sym (c .count)
 
-        at : (k : ℕ) → k < length (map (itemOf bytes ends s t) (childrenOf t e)) → itemAt bytes ends items texts k ≡ getD (map (itemOf bytes ends s t) (childrenOf t e)) k (itemOf bytes ends s t 0)
-        at k h = item-at k (rw size at h) ∙ sym (List·getD-map (itemOf bytes ends s t) (childrenOf t e) k 0)
+        at : (k : ℕ) → k < length (map (itemOf (tablesOf T s t)) (childrenOf t e)) → itemAt T items texts k ≡ getD (map (itemOf (tablesOf T s t)) (childrenOf t e)) k (itemOf (tablesOf T s t) 0)
+        at k h = item-at k (rw size at h) ∙ sym (List·getD-map (itemOf (tablesOf T s t)) (childrenOf t e) k 0)
 
-        tested : (k : ℕ) → k < length (map (itemOf bytes ends s t) (childrenOf t e)) → bit w k ≡ P (getD (map (itemOf bytes ends s t) (childrenOf t e)) k (itemOf bytes ends s t 0))
+        tested : (k : ℕ) → k < length (map (itemOf (tablesOf T s t)) (childrenOf t e)) → bit w k ≡ P (getD (map (itemOf (tablesOf T s t)) (childrenOf t e)) k (itemOf (tablesOf T s t) 0))
         tested k h = f k ∙ rw (lt-ltb k n (rw size at h)) (ap P (at k h))
 
-        past : (k : ℕ) → length (map (itemOf bytes ends s t) (childrenOf t e)) ≤ k → bit w k ≡ false
+        past : (k : ℕ) → length (map (itemOf (tablesOf T s t)) (childrenOf t e)) ≤ k → bit w k ≡ false
         past k h = f k ∙ rw (le-ltb k n (rw size at h))
