@@ -41,10 +41,10 @@ returns-3 c =
     let a = c .before .before .before .before .before .before .before .args in
     record {
       in-table = λ right h. (
-        let below = start-before-end (ends-of right) (a .k) h in
-        let within = end-within (ends-of right) (length (a .ends .now) - suc (a .k)) (a .k) (omega arith) in
-        rw (in-order (a .bytes .now) (startOf (a .ends .now) (a .k)) (endOf (a .ends .now) (a .k)) below (le-trans below within)) at (c .text .ensures .lies)
-      );
+          let below = start-before-end (ends-of right) (a .k) h in
+          let within = end-within (ends-of right) (length (a .ends .now) - suc (a .k)) (a .k) (omega arith) in
+          rw (in-order (a .bytes .now) (startOf (a .ends .now) (a .k)) (endOf (a .ends .now) (a .k)) below (le-trans below within)) at (c .text .ensures .lies)
+          );
       not-in-table = λ h. absurd (omega arith);
       rule-broken = λ place f. absurd (found-none _ (c .before .before .before .before .check-strings .ensures) (c .before .before .enum-told .given .1) place f);
     }
