@@ -55,9 +55,6 @@ pub enum Held {
     Wrong(u32),
 }
 
-// The longest file.
-pub const MAX_FILE: usize = 65536;
-
 // Where the line ends that starts at a position.
 fn line_end(file: &[u8], at: usize) -> Found
     ensures { λ r. ⌜ LineEnd (now (file .entry)) at r ⌝ }
@@ -393,7 +390,7 @@ fn read_lines(
 ) -> Held
     ensures { λ r. ⌜ LinesHeld (now (file .entry)) (now (bytes .entry)) (now (ends .entry)) (now (schema .entry)) (now (instance .entry)) (now (bytes .exit)) (now (ends .exit)) (now (schema .exit)) (now (instance .exit)) r ⌝ }
 {
-    if MAX_FILE < file.len() {
+    if jobs::MAX_FILE < file.len() {
         return Held::Wrong(0);
     }
     match read_front(file, bytes, ends) {
