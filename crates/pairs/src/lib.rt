@@ -1,24 +1,21 @@
 // The pairs of an element and a definition that it matches.
 ghost use mathlib.Core.Path.{_≡_};
 ghost use mathlib.Core.Bool.{true, cond};
-ghost use mathlib.Core.List.{List};
 ghost use mathlib.Core.Logic.{_↔_};
-ghost use Prim.Native.Nat.{ℕ, _+_, _*_, _≤_, _<_};
+ghost use Prim.Native.Nat.{_+_, _≤_, _<_};
 ghost use lib.Dec.{eqb};
 ghost use lib.ListN.{length, getD, take};
 ghost use Rattle.tables.specs.Answers.{Decides};
-ghost use Rattle.schema.specs.RowRule.{maxRows};
-ghost use Rattle.schema.specs.Rows.{rowsOf};
+ghost use Rattle.tables.specs.Tables.{StringTable, stringTable, tablesOf};
 ghost use Rattle.instance.specs.Width.{maxWidth};
-ghost use Rattle.definitions.specs.Definitions.{isDefinition, Definitions};
-ghost use Rattle.matching.specs.Setting.{Setting, Asked, Covered, Related};
-ghost use Rattle.instance.specs.NodeRule.{maxNodes};
 ghost use Rattle.instance.specs.Nodes.{nodesOf};
 ghost use Rattle.instance.specs.Elements.{isElement};
+ghost use Rattle.definitions.specs.Definitions.{Definitions};
+ghost use Rattle.sets.specs.Collecting.{Collects};
+ghost use Rattle.matching.specs.Setting.{Setting, Asked, Covered, Related, Relatable};
 ghost use Rattle.marks.specs.Given.{Given};
-ghost use Rattle.marks.specs.Tests.{Collects};
-ghost use Rattle.pairs.specs.Pairs.{TablesPass, IsPair, PairsRight};
-ghost use Rattle.pairs.specs.Rows.{Fits, Shown, Ready, RowRight, isSolid, Filling, StandsFor};
+ghost use Rattle.pairs.specs.Pairs.{IsPair, PairsRight, Pairable};
+ghost use Rattle.pairs.specs.Rows.{Fits, Shown, Ready, RowRight, isSolid, Filling, StandsFor, Space, PairAsked, RowAsked, NodeAsked, TableAsked};
 
 // Whether the attributes a and all items of k, of the first n, match the pattern at row p.
 fn all_match(
@@ -33,8 +30,8 @@ fn all_match(
     p: u32,
     work: &mut [u64],
 ) -> bool
-    requires { ⌜ (32768 ≤ length (now work)) × (n ≤ maxWidth) ⌝ }
-    ensures { λ r. ⌜ ((S : Setting (now (schema .entry))) → Asked S a k → p < rowsOf (now (schema .entry)) → Covered S (now (marks .entry)) (now (named .entry)) (now (taken .entry)) (now (single .entry)) p → Decides (Related S (n + 1) a k p 0 n) r) ⌝ }
+    requires { ⌜ Relatable (now schema) (now marks) (now named) (now taken) (now single) (n + 1) a k p (now work) ⌝ }
+    ensures { λ r. ⌜ ((S : Setting (now (schema .entry))) → Asked S a k → Covered S (now (marks .entry)) (now (named .entry)) (now (taken .entry)) (now (single .entry)) p → Decides (Related S (n + 1) a k p 0 n) r) ⌝ }
 {
     matching::relate(schema, marks, named, taken, single, n + 1, a, k, p, work);
     sets::has(sets::word(work, 0), n)
@@ -54,8 +51,8 @@ fn content_fits(
     p: u32,
     work: &mut [u64],
 ) -> bool
-    requires { ⌜ (32768 ≤ length (now work)) × (n ≤ maxWidth) ⌝ }
-    ensures { λ r. ⌜ ((S : Setting (now (schema .entry))) → Asked S a k → p < rowsOf (now (schema .entry)) → Covered S (now (marks .entry)) (now (named .entry)) (now (taken .entry)) (now (single .entry)) p → Decides (Fits S n a k weak p) r) ⌝ }
+    requires { ⌜ Relatable (now schema) (now marks) (now named) (now taken) (now single) (n + 1) a k p (now work) ⌝ }
+    ensures { λ r. ⌜ ((S : Setting (now (schema .entry))) → Asked S a k → Covered S (now (marks .entry)) (now (named .entry)) (now (taken .entry)) (now (single .entry)) p → Decides (Fits S n a k weak p) r) ⌝ }
 {
     if all_match(schema, marks, named, taken, single, n, a, k, p, work) {
         return true;
@@ -88,8 +85,8 @@ fn pair_at(
     single: &mut [u64],
     work: &mut [u64],
 ) -> u8
-    requires { ⌜ (32768 ≤ length (now work)) × (512 ≤ length (now marks)) × (512 ≤ length (now named)) × (512 ≤ length (now taken)) × (512 ≤ length (now single)) × (rowsOf (now schema) ≤ 512) × (length (now items) ≤ maxWidth) ⌝ }
-    ensures { λ v. ⌜ ((bytes ends : List ℕ) → Given bytes ends (now (schema .entry)) (now (instance .entry)) (now (alone .entry)) (now (nothing .entry)) (now (blank .entry)) (now (pairs .entry)) (now (items .entry)) e attributes texts → Shown bytes ends (now (schema .entry)) (now (instance .entry)) (now (items .entry)) e attributes texts a k weak → isElement (now (instance .entry)) e ≡ true → isDefinition (now (schema .entry)) d ≡ true → d < rowsOf (now (schema .entry)) → (v ≡ 1) ↔ IsPair bytes ends (now (schema .entry)) (now (instance .entry)) e d) ⌝ }
+    requires { ⌜ Space (now marks) (now named) (now taken) (now single) (now work) × PairAsked (now schema) (now instance) (now alone) (now nothing) (now blank) (now pairs) (now items) e attributes texts a k weak d ⌝ }
+    ensures { λ v. ⌜ ((T : StringTable) → Given (tablesOf T (now (schema .entry)) (now (instance .entry))) (now (alone .entry)) (now (nothing .entry)) (now (blank .entry)) (now (pairs .entry)) (now (items .entry)) e attributes texts → Shown (tablesOf T (now (schema .entry)) (now (instance .entry))) (now (items .entry)) e attributes texts a k weak → (v ≡ 1) ↔ IsPair (tablesOf T (now (schema .entry)) (now (instance .entry))) e d) ⌝ }
 {
     let class = schema::field_a(schema, d);
     let namespace = instance::field_a(instance, e);
@@ -144,8 +141,8 @@ fn pair_row(
     single: &mut [u64],
     work: &mut [u64],
 )
-    requires { ⌜ (32768 ≤ length (now work)) × (524288 ≤ length (now pairs)) × (e < 1024) × (rowsOf (now schema) ≤ 512) × (512 ≤ length (now marks)) × (512 ≤ length (now named)) × (512 ≤ length (now taken)) × (512 ≤ length (now single)) × (length (now items) ≤ maxWidth) × Definitions (now schema) (now definitions) (length (now definitions)) ⌝ }
-    ensures { λ _. ⌜ ((bytes ends : List ℕ) → Ready bytes ends (now (schema .entry)) (now (instance .entry)) (now (alone .entry)) (now (nothing .entry)) (now (blank .entry)) (now (pairs .entry)) (now (items .entry)) e attributes texts a k weak → isElement (now (instance .entry)) e ≡ true → RowRight bytes ends (now (schema .entry)) (now (instance .entry)) (now (pairs .entry)) (now (pairs .exit)) e) ⌝ }
+    requires { ⌜ Space (now marks) (now named) (now taken) (now single) (now work) × RowAsked (now schema) (now instance) (now alone) (now nothing) (now blank) (now pairs) (now items) e attributes texts a k weak × Definitions (now schema) (now definitions) (length (now definitions)) ⌝ }
+    ensures { λ _. ⌜ ((T : StringTable) → Ready (tablesOf T (now (schema .entry)) (now (instance .entry))) (now (alone .entry)) (now (nothing .entry)) (now (blank .entry)) (now (pairs .entry)) (now (items .entry)) e attributes texts a k weak → RowRight (tablesOf T (now (schema .entry)) (now (instance .entry))) (now (pairs .entry)) (now (pairs .exit)) e) ⌝ }
 {
     let mut i: usize = 0;
     while i < definitions.len() {
@@ -171,7 +168,7 @@ fn pair_row(
             single,
             work,
         );
-        pairs[e as usize * 512 + d as usize] = v;
+        pairs[e as usize * schema::MAX_ROWS + d as usize] = v;
         i += 1;
     }
 }
@@ -186,7 +183,7 @@ fn solid(blank: &[u8], items: &[u32], texts: u64) -> u64
     while (k as usize) < items.len() {
         let item = tables::word(items, k as usize);
         let space = sets::has(texts, k) & (tables::byte(blank, item as usize) == 1);
-        set = marks::add_if(set, k, !space);
+        set = sets::add_if(set, k, !space);
         k += 1;
     }
     set
@@ -220,7 +217,7 @@ struct Content {
 
 // What stands for a content of n items: with an element among them all but whitespace, and otherwise one string, which is put first.
 fn content_of(blank: &[u8], items: &mut [u32], n: u32, texts: u64, elements: u64) -> Content
-    requires { ⌜ (n ≤ maxWidth) × (64 ≤ length (now items)) ⌝ }
+    requires { ⌜ (n ≤ maxWidth) × (maxWidth < length (now items)) ⌝ }
     ensures { λ r. ⌜ StandsFor (now (blank .entry)) (now (items .entry)) (now (items .exit)) n texts elements (r .count) (r .texts) (r .k) (r .weak) ⌝ }
 {
     if elements != 0 {
@@ -260,8 +257,8 @@ fn pair_element(
     single: &mut [u64],
     work: &mut [u64],
 )
-    requires { ⌜ (32768 ≤ length (now work)) × (524288 ≤ length (now pairs)) × (e < 1024) × (rowsOf (now schema) ≤ 512) × (512 ≤ length (now marks)) × (512 ≤ length (now named)) × (512 ≤ length (now taken)) × (512 ≤ length (now single)) × (64 ≤ length (now items)) × (nodesOf (now instance) ≤ 1024) × (e < nodesOf (now instance)) × Definitions (now schema) (now definitions) (length (now definitions)) ⌝ }
-    ensures { λ _. ⌜ ((bytes ends : List ℕ) → Filling bytes ends (now (schema .entry)) (now (instance .entry)) (now (alone .entry)) (now (nothing .entry)) (now (blank .entry)) (now (pairs .entry)) (e + 1) → isElement (now (instance .entry)) e ≡ true → RowRight bytes ends (now (schema .entry)) (now (instance .entry)) (now (pairs .entry)) (now (pairs .exit)) e) ⌝ }
+    requires { ⌜ Space (now marks) (now named) (now taken) (now single) (now work) × NodeAsked (now schema) (now instance) (now alone) (now nothing) (now blank) (now pairs) (now items) e × (isElement (now instance) e ≡ true) × Definitions (now schema) (now definitions) (length (now definitions)) ⌝ }
+    ensures { λ _. ⌜ ((T : StringTable) → Filling (tablesOf T (now (schema .entry)) (now (instance .entry))) (now (alone .entry)) (now (nothing .entry)) (now (blank .entry)) (now (pairs .entry)) (e + 1) → RowRight (tablesOf T (now (schema .entry)) (now (instance .entry))) (now (pairs .entry)) (now (pairs .exit)) e) ⌝ }
 {
     let attributes = contents::attributes(instance, e);
     let a = contents::below(attributes);
@@ -269,9 +266,6 @@ fn pair_element(
     let texts = contents::of_kind(instance, items, n, instance::TEXT);
     let elements = contents::of_kind(instance, items, n, instance::ELEMENT);
     contents::to_items(instance, items, n);
-    if instance::MAX_WIDTH < n {
-        return;
-    }
     let content = content_of(blank, items, n, texts, elements);
     let count = content.count;
     pair_row(
@@ -314,8 +308,8 @@ fn pair_node(
     single: &mut [u64],
     work: &mut [u64],
 )
-    requires { ⌜ (32768 ≤ length (now work)) × (524288 ≤ length (now pairs)) × (e < 1024) × (rowsOf (now schema) ≤ 512) × (512 ≤ length (now marks)) × (512 ≤ length (now named)) × (512 ≤ length (now taken)) × (512 ≤ length (now single)) × (64 ≤ length (now items)) × (nodesOf (now instance) ≤ 1024) × (e < nodesOf (now instance)) × Definitions (now schema) (now definitions) (length (now definitions)) ⌝ }
-    ensures { λ _. ⌜ ((bytes ends : List ℕ) → Filling bytes ends (now (schema .entry)) (now (instance .entry)) (now (alone .entry)) (now (nothing .entry)) (now (blank .entry)) (now (pairs .entry)) (e + 1) → Filling bytes ends (now (schema .entry)) (now (instance .entry)) (now (alone .entry)) (now (nothing .entry)) (now (blank .entry)) (now (pairs .exit)) e) ⌝ }
+    requires { ⌜ Space (now marks) (now named) (now taken) (now single) (now work) × NodeAsked (now schema) (now instance) (now alone) (now nothing) (now blank) (now pairs) (now items) e × Definitions (now schema) (now definitions) (length (now definitions)) ⌝ }
+    ensures { λ _. ⌜ ((T : StringTable) → Filling (tablesOf T (now (schema .entry)) (now (instance .entry))) (now (alone .entry)) (now (nothing .entry)) (now (blank .entry)) (now (pairs .entry)) (e + 1) → Filling (tablesOf T (now (schema .entry)) (now (instance .entry))) (now (alone .entry)) (now (nothing .entry)) (now (blank .entry)) (now (pairs .exit)) e) ⌝ }
 {
     if instance::kind(instance, e) != instance::ELEMENT {
         return;
@@ -354,8 +348,8 @@ fn pair_all(
     single: &mut [u64],
     work: &mut [u64],
 )
-    requires { ⌜ (32768 ≤ length (now work)) × (524288 ≤ length (now pairs)) × (rowsOf (now schema) ≤ 512) × (512 ≤ length (now marks)) × (512 ≤ length (now named)) × (512 ≤ length (now taken)) × (512 ≤ length (now single)) × (64 ≤ length (now items)) × (nodesOf (now instance) ≤ 1024) × Definitions (now schema) (now definitions) (length (now definitions)) ⌝ }
-    ensures { λ _. ⌜ ((bytes ends : List ℕ) → Filling bytes ends (now (schema .entry)) (now (instance .entry)) (now (alone .entry)) (now (nothing .entry)) (now (blank .entry)) (now (pairs .entry)) (nodesOf (now (instance .entry))) → Filling bytes ends (now (schema .entry)) (now (instance .entry)) (now (alone .entry)) (now (nothing .entry)) (now (blank .entry)) (now (pairs .exit)) 0) ⌝ }
+    requires { ⌜ Space (now marks) (now named) (now taken) (now single) (now work) × TableAsked (now schema) (now instance) (now alone) (now nothing) (now blank) (now pairs) (now items) × Definitions (now schema) (now definitions) (length (now definitions)) ⌝ }
+    ensures { λ _. ⌜ ((T : StringTable) → Filling (tablesOf T (now (schema .entry)) (now (instance .entry))) (now (alone .entry)) (now (nothing .entry)) (now (blank .entry)) (now (pairs .entry)) (nodesOf (now (instance .entry))) → Filling (tablesOf T (now (schema .entry)) (now (instance .entry))) (now (alone .entry)) (now (nothing .entry)) (now (blank .entry)) (now (pairs .exit)) 0) ⌝ }
 {
     let mut r = instance.len() / 5;
     while r > 0 {
@@ -379,31 +373,23 @@ fn pair_all(
     }
 }
 
-// The table of pairs of tables that pass, with room for every instance row and every schema row; a table without that room is left as it is.
+// The table of pairs of tables that pass.
 pub fn pair_table(bytes: &[u8], ends: &[u32], schema: &[u32], instance: &[u32], pairs: &mut [u8])
-    ensures { λ _. ⌜ (maxNodes * maxRows ≤ length (now (pairs .entry)) → TablesPass (now (bytes .entry)) (now (ends .entry)) (now (schema .entry)) (now (instance .entry)) → PairsRight (now (bytes .entry)) (now (ends .entry)) (now (schema .entry)) (now (instance .entry)) (now (pairs .exit))) ⌝ }
+    requires { ⌜ Pairable (tablesOf (stringTable (now bytes) (now ends)) (now schema) (now instance)) (now pairs) ⌝ }
+    ensures { λ _. ⌜ PairsRight (tablesOf (stringTable (now (bytes .entry)) (now (ends .entry))) (now (schema .entry)) (now (instance .entry))) (now (pairs .exit)) ⌝ }
 {
-    if pairs.len() < 524288 {
-        return;
-    }
-    if 512 < schema.len() / 3 {
-        return;
-    }
-    if 1024 < instance.len() / 5 {
-        return;
-    }
     tables::zero_u8(pairs);
     let mut alone = [0u8; 262144];
-    let mut nothing = [0u8; 512];
+    let mut nothing = [0u8; schema::MAX_ROWS];
     let mut blank = [0u8; 512];
     alone::fill(bytes, ends, schema, &mut alone, &mut nothing, &mut blank);
-    let mut rows = [0u32; 512];
+    let mut rows = [0u32; schema::MAX_ROWS];
     let n = definitions::definitions(schema, &mut rows) as usize;
     let mut items = [0u32; 64];
-    let mut marks = [0u64; 512];
-    let mut named = [0u64; 512];
-    let mut taken = [0u64; 512];
-    let mut single = [0u64; 512];
+    let mut marks = [0u64; schema::MAX_ROWS];
+    let mut named = [0u64; schema::MAX_ROWS];
+    let mut taken = [0u64; schema::MAX_ROWS];
+    let mut single = [0u64; schema::MAX_ROWS];
     let mut work = [0u64; 32768];
     pair_all(
         schema,

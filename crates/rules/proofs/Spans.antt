@@ -49,7 +49,7 @@ module _ (L : Lookups) (NotMatch : List ℕ → ℕ → Type 0) where
     span-noPattern e s = by-kind noPattern e .0 s .1
 
     -- a kind that takes items and no attribute
-    items-only : (x : Pattern) (Asked : List Item → Type 0) → Step L NotMatch x A (run it K i (j - i)) ↔ ((A ≡ none) × Asked (run it K i (j - i)))
+    pub items-only : (x : Pattern) (Asked : List Item → Type 0) → Step L NotMatch x A (run it K i (j - i)) ↔ ((A ≡ none) × Asked (run it K i (j - i)))
         → L .pattern p ≡ x → Span L NotMatch A it K p i j ↔ ItemsOnly A it K Asked i j
     items-only x Asked f e = (
       λ s. let t = f .0 (by-kind x e .0 s .1) in record { ordered = s .0; free = t .0; items = t .1 },

@@ -1,6 +1,4 @@
 -- The pair 0, n of the relation is position n of its first word.
-use native.Mathlib.Omega.{arith}
-use Rattle.schema.proofs.RowLaws.{few-rows, right-size}
 use Rattle.matching.specs.Setting.{Related}
 use Rattle.pairs.proofs.Fitting.{word-tells}
 use borrow.Author.Needs.{needs}
@@ -23,13 +21,10 @@ same-length : tie.Need-same-length
 same-length c = search needs
 
 returns : tie.Need-returns
-returns c = λ S q h covered.
+returns c = λ S q covered.
     let s = c .before .before .before .before .before .before .before .before .before .before .before .before .before in
     let x = s .args in
-    let room = s .pre .0 in
-    let few = s .pre .1 in
-    let rows = few-rows (right-size (S .passes .rows)) in
-    word-tells (x .n) (c .before .before .before .before .before .relate .last .1 .1 .1 .1 .1 .1 .1 .1 .1 .0) (Related S _ (x .a) (x .k) (x .p)) (c .before .before .before .before .before .relate .ensures (omega arith) (omega arith) S q covered) (c .before .word .ensures) (c .has .ensures)
+    word-tells (x .n) (c .before .before .before .before .before .relate .last .1 .1 .1 .1 .1 .1 .1 .1 .1 .0) (Related S _ (x .a) (x .k) (x .p)) (c .before .before .before .before .before .relate .ensures S q covered) (c .before .word .ensures) (c .has .ensures)
 
 pub all-match-spec : {M : Type 1} → statement M
 all-match-spec =

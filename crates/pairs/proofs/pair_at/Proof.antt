@@ -1,8 +1,8 @@
 -- The tests are those of a definition: the name in its class, and the content. The pattern is marked before it is related.
-use mathlib.Core.Path.{sym, _∙_}
+use mathlib.Core.Path.{refl, sym, _∙_}
 use native.Mathlib.Omega.{arith}
 use borrow.Author.Tests.{not-true, not-false}
-use Rattle.pairs.proofs.Fitting.{content-row, setting, asked, no-name, no-content, a-pair}
+use Rattle.pairs.proofs.Fitting.{setting, asked, no-name, no-content, a-pair, markable, pair-relatable}
 use borrow.Author.Needs.{needs}
 use Rattle.pairs.proofs.pair_at.Statement.{statement}
 use Rattle.pairs.proofs.pair_at.Tie as tie
@@ -20,19 +20,21 @@ in-class-requires : tie.Need-in-class-requires
 in-class-requires c κs = search needs
 
 returns : tie.Need-returns
-returns c = λ bytes ends g shown i f row. no-name g shown (c .before .before .before .before .before .before .before .before .before .before .before .before .before .before .before .before .before .args .d) (rw (c .before .before .before .before .field-a .ensures, c .before .before .before .field-a2 .ensures, c .before .before .field-b .ensures) at (sym (c .before .in-class .ensures) ∙ not-true (c .before .in-class .result) (c .if1 .taken)))
+returns c = λ T g shown. no-name g shown (c .before .before .before .before .before .before .before .before .before .before .before .before .before .before .before .before .before .args .d) (rw (c .before .before .before .before .field-a .ensures, c .before .before .before .field-a2 .ensures, c .before .before .field-b .ensures) at (sym (c .before .in-class .ensures) ∙ not-true (c .before .in-class .result) (c .if1 .taken)))
 
 field-b-requires-2 : tie.Need-field-b-requires-2
 field-b-requires-2 c κs = search needs
 
 mark-requires : tie.Need-mark-requires
-mark-requires c κs = search needs
+mark-requires c κs = markable (c .before .before .before .before .before .before .before .before .before .before .before .before .before .before .before .before .before .before .before .before .before .before .pre .1) (c .before .before .before .before .field-b2 .ensures) (c .before .before .before .before .before .before .before .before .before .before .before .before .before .before .before .before .before .before .before .before .before .before .pre .0)
 
 cast-n : tie.Need-cast-n
-cast-n c = let few = c .before .before .before .before .before .before .before .before .before .before .before .before .before .before .before .before .before .before .before .before .before .before .before .before .before .before .before .before .before .before .before .pre .6 in omega arith
+cast-n c = let few = c .before .before .before .before .before .before .before .before .before .before .before .before .before .before .before .before .before .before .before .before .before .before .before .before .before .before .before .before .before .before .before .pre .1 .given .few-items in omega arith
 
 content-fits-requires : tie.Need-content-fits-requires
-content-fits-requires c κs = let room = c .before .before .before .before .before .before .before .before .before .before .before .before .before .before .before .before .before .before .before .before .before .before .before .before .before .before .before .before .before .before .before .before .before .before .before .before .pre .0 in let few = c .before .before .before .before .before .before .before .before .before .before .before .before .before .before .before .before .before .before .before .before .before .before .before .before .before .before .before .before .before .before .before .before .before .before .before .before .pre .6 in (omega arith, omega arith)
+content-fits-requires c κs =
+    let room = c .before .before .before .before .before .before .before .before .before .before .before .before .before .before .before .before .before .before .before .before .before .before .before .before .before .before .before .before .before .before .before .before .before .before .before .before .pre .0 .for-work in
+    pair-relatable (c .before .before .before .before .before .before .before .before .before .before .before .before .before .before .before .before .before .before .before .before .before .before .before .before .before .before .before .before .before .before .before .before .before .before .before .before .pre .1) (c .before .before .before .before .before .before .before .before .before .before .before .before .before .before .before .before .before .before .field-b2 .ensures) (c .before .before .before .before .before .before .before .before .before .before .before .before .before .mark .ensures) refl (omega arith)
 
 same-length : tie.Need-same-length
 same-length c = search needs
@@ -50,18 +52,13 @@ same-length-5 : tie.Need-same-length-5
 same-length-5 c = search needs
 
 returns-2 : tie.Need-returns-2
-returns-2 c = λ bytes ends g shown i f row.
-    let q = c .before .before .before .before .before .before .before .before .before .before .before .before .before .before .before .before .before .before .before .before .before .before .before .before .before .before .before .before .before .before .before .before .before .before .before .before .before .before .before .before .pre in
-    let few = q .5 in
-    let h₁ = q .1 in
-    let h₂ = q .2 in
-    let h₃ = q .3 in
-    let h₄ = q .4 in
-    let content = content-row (g .passes .rows) (c .before .before .before .before .before .before .before .before .before .before .before .before .before .before .before .before .before .before .before .before .before .before .before .before .before .before .before .before .before .before .before .before .before .before .before .before .before .before .before .before .args .d) row f in
+returns-2 c = λ T g shown.
+    let q = c .before .before .before .before .before .before .before .before .before .before .before .before .before .before .before .before .before .before .before .before .before .before .before .before .before .before .before .before .before .before .before .before .before .before .before .before .before .before .before .before .pre .1 in
+    let d = c .before .before .before .before .before .before .before .before .before .before .before .before .before .before .before .before .before .before .before .before .before .before .before .before .before .before .before .before .before .before .before .before .before .before .before .before .before .before .before .before .args .d in
     let pattern = c .before .before .before .before .before .before .before .before .before .before .before .before .before .before .before .before .before .before .before .before .before .before .field-b2 .ensures in
-    let marked = c .before .before .before .before .before .before .before .before .before .before .before .before .before .before .before .before .before .mark .ensures bytes ends g (rw pattern content) (omega arith) (omega arith) (omega arith) (omega arith) in
-    let fits = c .before .before .before .content-fits .ensures (setting g shown) (asked g shown) (rw pattern content) (marked .pattern) in
-    a-pair g shown (c .before .before .before .before .before .before .before .before .before .before .before .before .before .before .before .before .before .before .before .before .before .before .before .before .before .before .before .before .before .before .before .before .before .before .before .before .before .before .before .before .args .d) i f (rw (c .before .before .before .before .before .before .before .before .before .before .before .before .before .before .before .before .before .before .before .before .before .before .before .before .before .before .before .field-a .ensures, c .before .before .before .before .before .before .before .before .before .before .before .before .before .before .before .before .before .before .before .before .before .before .before .before .before .before .field-a2 .ensures, c .before .before .before .before .before .before .before .before .before .before .before .before .before .before .before .before .before .before .before .before .before .before .before .before .before .field-b .ensures) at (sym (c .before .before .before .before .before .before .before .before .before .before .before .before .before .before .before .before .before .before .before .before .before .before .before .before .in-class .ensures) ∙ not-false (c .before .before .before .before .before .before .before .before .before .before .before .before .before .before .before .before .before .before .before .before .before .before .before .before .in-class .result) (c .before .before .before .before .before .before .before .before .before .before .before .before .before .before .before .before .before .before .before .before .before .before .before .if1 .left))) (rw (c .if2 .taken, pattern) at fits)
+    let marked = c .before .before .before .before .before .before .before .before .before .before .before .before .before .before .before .before .before .mark .ensures .marking T g in
+    let fits = c .before .before .before .content-fits .ensures (setting g shown) (asked g shown) (marked .pattern) in
+    a-pair g shown d (q .element) (q .defined) (rw (c .before .before .before .before .before .before .before .before .before .before .before .before .before .before .before .before .before .before .before .before .before .before .before .before .before .before .before .field-a .ensures, c .before .before .before .before .before .before .before .before .before .before .before .before .before .before .before .before .before .before .before .before .before .before .before .before .before .before .field-a2 .ensures, c .before .before .before .before .before .before .before .before .before .before .before .before .before .before .before .before .before .before .before .before .before .before .before .before .before .field-b .ensures) at (sym (c .before .before .before .before .before .before .before .before .before .before .before .before .before .before .before .before .before .before .before .before .before .before .before .before .in-class .ensures) ∙ not-false (c .before .before .before .before .before .before .before .before .before .before .before .before .before .before .before .before .before .before .before .before .before .before .before .before .in-class .result) (c .before .before .before .before .before .before .before .before .before .before .before .before .before .before .before .before .before .before .before .before .before .before .before .if1 .left))) (rw (c .if2 .taken, pattern) at fits)
 
 same-length-6 : tie.Need-same-length-6
 same-length-6 c = search needs
@@ -79,18 +76,12 @@ same-length-10 : tie.Need-same-length-10
 same-length-10 c = search needs
 
 returns-3 : tie.Need-returns-3
-returns-3 c = λ bytes ends g shown i f row.
-    let q = c .before .before .before .before .before .before .before .before .before .before .before .before .before .before .before .before .before .before .before .before .before .before .before .before .before .before .before .before .before .before .before .before .before .before .before .before .before .before .before .before .pre in
-    let few = q .5 in
-    let h₁ = q .1 in
-    let h₂ = q .2 in
-    let h₃ = q .3 in
-    let h₄ = q .4 in
-    let content = content-row (g .passes .rows) (c .before .before .before .before .before .before .before .before .before .before .before .before .before .before .before .before .before .before .before .before .before .before .before .before .before .before .before .before .before .before .before .before .before .before .before .before .before .before .before .before .args .d) row f in
+returns-3 c = λ T g shown.
+    let d = c .before .before .before .before .before .before .before .before .before .before .before .before .before .before .before .before .before .before .before .before .before .before .before .before .before .before .before .before .before .before .before .before .before .before .before .before .before .before .before .before .args .d in
     let pattern = c .before .before .before .before .before .before .before .before .before .before .before .before .before .before .before .before .before .before .before .before .before .before .field-b2 .ensures in
-    let marked = c .before .before .before .before .before .before .before .before .before .before .before .before .before .before .before .before .before .mark .ensures bytes ends g (rw pattern content) (omega arith) (omega arith) (omega arith) (omega arith) in
-    let fits = c .before .before .before .content-fits .ensures (setting g shown) (asked g shown) (rw pattern content) (marked .pattern) in
-    no-content g shown (c .before .before .before .before .before .before .before .before .before .before .before .before .before .before .before .before .before .before .before .before .before .before .before .before .before .before .before .before .before .before .before .before .before .before .before .before .before .before .before .before .args .d) (rw (c .if2 .left, pattern) at fits)
+    let marked = c .before .before .before .before .before .before .before .before .before .before .before .before .before .before .before .before .before .mark .ensures .marking T g in
+    let fits = c .before .before .before .content-fits .ensures (setting g shown) (asked g shown) (marked .pattern) in
+    no-content g shown d (rw (c .if2 .left, pattern) at fits)
 
 pub pair-at-spec : {M : Type 1} → statement M
 pair-at-spec =

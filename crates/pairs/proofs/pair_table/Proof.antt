@@ -1,4 +1,4 @@
--- A table that is too short, and more rows than there may be, contradict the premises.
+-- No entry is told before the last row; what is told at row 0 is the whole table.
 use Prim.Native.Nat.{ℕ, _≤_}
 use mathlib.Core.Path.{sym, _∙_, subst⁻¹}
 use denote.Ref.{now}
@@ -16,14 +16,8 @@ use borrow.Author.Needs.{needs}
 use Rattle.pairs.proofs.pair_table.Statement.{statement}
 use Rattle.pairs.proofs.pair_table.Tie as tie
 
-returns : tie.Need-returns
-returns c h p = absurd (omega arith)
-
-returns-2 : tie.Need-returns-2
-returns-2 c h p = absurd (let x = few-rows (right-size (p .schema .rows)) in omega arith)
-
-returns-3 : tie.Need-returns-3
-returns-3 c h p = absurd (let x = few-nodes (λ r f. p .nodes r (bad-size f)) in omega arith)
+whole : 262144 ≤ length (replicate {A = ℕ} 262144 0)
+whole = subst⁻¹ (λ n. 262144 ≤ n) (length-replicate {A = ℕ} 262144 0) (omega arith)
 
 zero-u8-requires : tie.Need-zero-u8-requires
 zero-u8-requires c κs = search needs
@@ -38,13 +32,15 @@ slice-aggregate-fill-3 : tie.Need-slice-aggregate-fill-3
 slice-aggregate-fill-3 c = search needs
 
 fill-requires : tie.Need-fill-requires
-fill-requires c κs = search needs
+fill-requires c κs =
+    let pass = c .before .before .before .before .before .before .before .before .before .before .before .before .pre .pass in
+    record { passes = pass .schema; few-strings = few-strings (λ k x. ends-of (pass .strings) k (at-front x)); long-alone = whole; long-nothing = omega arith; long-blank = omega arith }
 
 slice-aggregate-definitions : tie.Need-slice-aggregate-definitions
 slice-aggregate-definitions c = search needs
 
 definitions-requires : tie.Need-definitions-requires
-definitions-requires c κs = search needs
+definitions-requires c κs = (few-rows (right-size (c .before .before .before .before .before .before .before .before .before .before .before .before .before .before .before .before .before .pre .pass .schema .rows)), omega arith)
 
 cast-n : tie.Need-cast-n
 cast-n c = search needs
@@ -59,10 +55,18 @@ slice-aggregate-pair-all-3 : tie.Need-slice-aggregate-pair-all-3
 slice-aggregate-pair-all-3 c = search needs
 
 array-share-prefix-rows : tie.Need-array-share-prefix-rows
-array-share-prefix-rows c = let n = c .before .before .before .before .definitions .ensures .1 in let l = c .before .before .before .rows2 .given in omega arith
+array-share-prefix-rows c =
+    let n = c .before .before .before .before .definitions .ensures .few in
+    let few = few-rows (right-size (c .before .before .before .before .before .before .before .before .before .before .before .before .before .before .before .before .before .before .before .before .before .before .pre .pass .schema .rows)) in
+    let l = c .before .before .before .rows2 .given in
+    omega arith
 
 slice-aggregate-pair-all-4 : tie.Need-slice-aggregate-pair-all-4
-slice-aggregate-pair-all-4 c = let n = c .before .before .before .before .before .definitions .ensures .1 in let l = c .before .before .before .before .rows2 .given in sym (length-take-le (c .before .before .before .before .before .definitions .result) (c .before .before .before .before .before .definitions .last .1 .0) (omega arith))
+slice-aggregate-pair-all-4 c =
+    let n = c .before .before .before .before .before .definitions .ensures .few in
+    let few = few-rows (right-size (c .before .before .before .before .before .before .before .before .before .before .before .before .before .before .before .before .before .before .before .before .before .before .before .pre .pass .schema .rows)) in
+    let l = c .before .before .before .before .rows2 .given in
+    sym (length-take-le (c .before .before .before .before .before .definitions .result) (c .before .before .before .before .before .definitions .last .1 .0) (omega arith))
 
 slice-aggregate-pair-all-5 : tie.Need-slice-aggregate-pair-all-5
 slice-aggregate-pair-all-5 c = search needs
@@ -84,27 +88,27 @@ slice-aggregate-pair-all-10 c = search needs
 
 pair-all-requires : tie.Need-pair-all-requires
 pair-all-requires c κs =
-    let n = c .before .before .before .before .before .before .before .before .before .before .before .before .definitions .ensures .1 in
+    let pass = c .before .before .before .before .before .before .before .before .before .before .before .before .before .before .before .before .before .before .before .before .before .before .before .before .before .before .before .before .before .before .pre .pass in
+    let few = few-rows (right-size (pass .schema .rows)) in
+    let n = c .before .before .before .before .before .before .before .before .before .before .before .before .definitions .ensures .few in
     let l = c .before .before .before .before .before .before .before .before .before .before .before .rows2 .given in
-    (omega arith, omega arith, omega arith, omega arith, omega arith, omega arith, omega arith, omega arith, omega arith, definitions-part (omega arith) (c .before .before .before .before .before .before .before .before .before .before .before .before .definitions .ensures .0 (omega arith) (omega arith)))
+    let room = c .before .before .before .before .before .before .before .before .before .before .before .before .before .before .before .before .before .before .before .before .before .before .before .before .before .before .before .before .before .before .pre .room in
+    let size = c .before .before .before .before .before .before .before .before .before .before .before .before .before .before .before .before .before .before .before .before .before .before .pairs .given in (
+      record { for-marks = omega arith; for-named = omega arith; for-taken = omega arith; for-single = omega arith; for-work = omega arith },
+      record { strings = _; filling = filling-start (length (now (c .before .before .before .before .before .before .before .before .before .before .before .before .before .before .before .before .before .before .before .before .before .before .before .before .before .before .before .before .before .before .args .pairs))) pass (c .before .before .before .before .before .before .before .before .before .before .before .before .before .before .before .before .before .fill .ensures) (c .before .before .before .before .before .before .before .before .before .before .before .before .before .before .before .before .before .before .before .before .before .before .before .zero-u8 .ensures); room = omega arith; room-items = omega arith },
+      definitions-part (omega arith) (c .before .before .before .before .before .before .before .before .before .before .before .before .definitions .ensures),
+    )
 
 same-length : tie.Need-same-length
 same-length c = c .before .before .before .before .before .before .pairs2 .given ∙ c .before .before .before .before .before .before .before .before .before .before .before .before .before .before .before .before .before .before .before .before .before .before .before .before .before .before .before .before .before .before .before .pairs .given
 
-returns-4 : tie.Need-returns-4
-returns-4 c h p =
-    let strings = few-strings (λ k x. ends-of (p .strings) k (at-front x)) in
-    let long : 262144 ≤ length (replicate {A = ℕ} 262144 0) = subst⁻¹ (λ n. 262144 ≤ n) (length-replicate {A = ℕ} 262144 0) (omega arith) in
-    let filled = c .before .before .before .before .before .before .before .before .before .before .before .before .before .before .before .before .before .before .before .before .before .before .before .before .before .before .fill .ensures (record { passes = p .schema; few-strings = strings; long-alone = long; long-nothing = omega arith; long-blank = omega arith }) in
-    c .before .before .before .before .before .before .before .before .pair-all .ensures _ _ (filling-start (length (now (c .before .before .before .before .before .before .before .before .before .before .before .before .before .before .before .before .before .before .before .before .before .before .before .before .before .before .before .before .before .before .before .before .before .before .before .before .before .before .before .before .before .before .args .pairs))) p filled (c .before .before .before .before .before .before .before .before .before .before .before .before .before .before .before .before .before .before .before .before .before .before .before .before .before .before .before .before .before .before .before .before .zero-u8 .ensures)) .from
+returns : tie.Need-returns
+returns c = c .before .before .before .before .before .before .before .before .pair-all .ensures _ (filling-start (length (now (c .before .before .before .before .before .before .before .before .before .before .before .before .before .before .before .before .before .before .before .before .before .before .before .before .before .before .before .before .before .before .before .before .before .before .before .before .before .before .before .args .pairs))) (c .before .before .before .before .before .before .before .before .before .before .before .before .before .before .before .before .before .before .before .before .before .before .before .before .before .before .before .before .before .before .before .before .before .before .before .before .before .before .before .pre .pass) (c .before .before .before .before .before .before .before .before .before .before .before .before .before .before .before .before .before .before .before .before .before .before .before .before .before .before .fill .ensures) (c .before .before .before .before .before .before .before .before .before .before .before .before .before .before .before .before .before .before .before .before .before .before .before .before .before .before .before .before .before .before .before .before .zero-u8 .ensures)) .from
 
 pub pair-table-spec : {M : Type 1} → statement M
 pair-table-spec =
     tie.close
     (tie.spec
-    returns
-    returns-2
-    returns-3
     zero-u8-requires
     slice-aggregate-fill
     slice-aggregate-fill-2
@@ -126,4 +130,4 @@ pair-table-spec =
     slice-aggregate-pair-all-10
     pair-all-requires
     same-length
-    returns-4)
+    returns)
