@@ -9,7 +9,9 @@ use native.Mathlib.Omega.{arith}
 use lib.Dec.{eqb}
 use lib.ListN.{length, getD}
 use borrow.Author.Tests.{eq-eqb, eqb-true, eqb-false}
+use Rattle.tables.specs.Tables.{tablesOf}
 use Rattle.tables.specs.Answers.{Decides}
+use Rattle.schema.specs.Kinds as kind
 use Rattle.schema.specs.Rows.{rowsOf, kindOf, aOf, bOf, shapeOf}
 use Rattle.schema.specs.Views.{Pattern, notAllowed, ref, choice, patternBy, patternOf}
 use Rattle.schema.specs.RowRule.{RowsRight, no-row}
@@ -32,7 +34,7 @@ use Rattle.rules.specs.Restricted.{Starts, starts-notAllowed, starts-ref, start
 use Rattle.rules.proofs.RowPatterns.{row-makes, from-ref, from-choice, has-kind}
 use Rattle.marks.specs.Given.{pairEntry}
 use Rattle.pairs.specs.Pairs.{TablesPass, PairsRight}
-use Rattle.validity.specs.Start.{TellsRoot, TellsValid}
+use Rattle.validity.specs.Start.{RootAsked, StartAsked, TellsRoot, TellsValid}
 
 pub some-row : {strings : ℕ} {s : List ℕ} → RowsRight strings s → 0 < rowsOf s
 some-row {strings} {s} right = at (rowsOf s) refl
@@ -46,7 +48,7 @@ pub root-element : {strings : ℕ} {t : List ℕ} → NodesRight strings t → i
 root-element right = eq-eqb _ _ (rooted right .root-kind (some-node right))
 
 -- a ref names a definition, which is a row of the table
-ref-row : {strings : ℕ} {s : List ℕ} → RowsRight strings s → (p : ℕ) → kindOf s p ≡ 8 → aOf s p < rowsOf s
+ref-row : {strings : ℕ} {s : List ℕ} → RowsRight strings s → (p : ℕ) → kindOf s p ≡ kind.ref → aOf s p < rowsOf s
 unfolding shapeOf
 ref-row {strings} {s} right p e =
     let d = definition-kind s (aOf s p) (rw e at (both-fields strings s right p (has-kind right e (λ z. omega arith)) .0)) in
@@ -66,62 +68,79 @@ module _ (L : Lookups) where
 
 module _ (s pairs : List ℕ) (p : ℕ) where
   -- a ref: the entry of the root and the definition
-  pub tells-ref : {v : ℕ} (r : Bool) → kindOf s p ≡ 8 → v ≡ getD pairs (aOf s p) 0 → r ≡ eqb v 1 → TellsRoot s pairs p r
+  pub tells-ref : {v : ℕ} (r : Bool) → kindOf s p ≡ kind.ref → v ≡ getD pairs (aOf s p) 0 → r ≡ eqb v 1 → TellsRoot s pairs p r
   unfolding patternBy
-  tells-ref {v} r e f g bytes ends t pass right starts = rw (ap (λ (k : ℕ). patternBy k (aOf s p) (bOf s p)) e) (go r g)
+  tells-ref {v} r e f g T t pass right starts = rw (ap (λ (k : ℕ). patternBy k (aOf s p) (bOf s p)) e) (go r g)
     where
       at : v ≡ pairEntry pairs 0 (aOf s p)
       at = f ∙ ap (λ (i : ℕ). getD pairs i 0) (sym (zero-add (aOf s p)))
 
-      entry : (v ≡ 1) → Matches (lookups bytes ends s t) none (element 0 ∷ []) (ref (aOf s p))
-      entry z = against (lookups bytes ends s t) (NotMatchBy (lookups bytes ends s t) (rowsOf s)) 0 (aOf s p) .1 (right .entries 0 (aOf s p) (omega arith) (some-node (pass .nodes)) (ref-row (pass .schema .rows) p e) .0 (sym at ∙ z) .1)
+      entry : (v ≡ 1) → Matches (lookups (tablesOf T s t)) none (element 0 ∷ []) (ref (aOf s p))
+      entry z = against (lookups (tablesOf T s t)) (NotMatchBy (lookups (tablesOf T s t)) (rowsOf s)) 0 (aOf s p) .1 (right .entries 0 (aOf s p) (omega arith) (some-node (pass .nodes)) (ref-row (pass .schema .rows) p e) .0 (sym at ∙ z) .1)
 
-      back : Matches (lookups bytes ends s t) none (element 0 ∷ []) (ref (aOf s p)) → v ≡ 1
-      back m = at ∙ right .entries 0 (aOf s p) (omega arith) (some-node (pass .nodes)) (ref-row (pass .schema .rows) p e) .1 (root-element (pass .nodes), against (lookups bytes ends s t) (NotMatchBy (lookups bytes ends s t) (rowsOf s)) 0 (aOf s p) .0 m)
+      back : Matches (lookups (tablesOf T s t)) none (element 0 ∷ []) (ref (aOf s p)) → v ≡ 1
+      back m = at ∙ right .entries 0 (aOf s p) (omega arith) (some-node (pass .nodes)) (ref-row (pass .schema .rows) p e) .1 (root-element (pass .nodes), against (lookups (tablesOf T s t)) (NotMatchBy (lookups (tablesOf T s t)) (rowsOf s)) 0 (aOf s p) .0 m)
 
-      go : (r : Bool) → r ≡ eqb v 1 → Decides (Matches (lookups bytes ends s t) none (element 0 ∷ []) (ref (aOf s p))) r
+      go : (r : Bool) → r ≡ eqb v 1 → Decides (Matches (lookups (tablesOf T s t)) none (element 0 ∷ []) (ref (aOf s p))) r
       go true g = entry (eqb-true v 1 (sym g))
       go false g = λ m. eqb-false v 1 (sym g) (back m)
 
-  module _ (e : kindOf s p ≡ 10) {p₁ p₂ : ℕ} (f₁ : p₁ ≡ aOf s p) (f₂ : p₂ ≡ bOf s p) where
+  module _ (e : kindOf s p ≡ kind.choice) {p₁ p₂ : ℕ} (f₁ : p₁ ≡ aOf s p) (f₂ : p₂ ≡ bOf s p) where
     is-choice : patternOf s p ≡ choice p₁ p₂
     unfolding patternBy
     is-choice = ap (λ (k : ℕ). patternBy k (aOf s p) (bOf s p)) e ∙ rw (f₁, f₂)
 
     pub tells-first : (r : Bool) → r ≡ true → TellsRoot s pairs p₁ r → TellsRoot s pairs p true
-    tells-first r g h bytes ends t pass right starts =
-        let k = sides (lookups bytes ends s t) (subst (Starts (lookups bytes ends s t)) is-choice starts) in
-        rw is-choice (choice-1 (rw g at (h bytes ends t pass right (k .0))))
+    tells-first r g h T t pass right starts =
+        let k = sides (lookups (tablesOf T s t)) (subst (Starts (lookups (tablesOf T s t))) is-choice starts) in
+        rw is-choice (choice-1 (rw g at (h T t pass right (k .0))))
 
     pub tells-second : (r₁ r : Bool) → r₁ ≡ false → TellsRoot s pairs p₁ r₁ → TellsRoot s pairs p₂ r → TellsRoot s pairs p r
-    tells-second r₁ r g h₁ h₂ bytes ends t pass right starts = rw is-choice (go r (h₂ bytes ends t pass right (k .1)))
+    tells-second r₁ r g h₁ h₂ T t pass right starts = rw is-choice (go r (h₂ T t pass right (k .1)))
       where
-        k : Starts (lookups bytes ends s t) (patternOf s p₁) × Starts (lookups bytes ends s t) (patternOf s p₂)
-        k = sides (lookups bytes ends s t) (subst (Starts (lookups bytes ends s t)) is-choice starts)
+        k : Starts (lookups (tablesOf T s t)) (patternOf s p₁) × Starts (lookups (tablesOf T s t)) (patternOf s p₂)
+        k = sides (lookups (tablesOf T s t)) (subst (Starts (lookups (tablesOf T s t))) is-choice starts)
 
-        no-first : Matches (lookups bytes ends s t) none (element 0 ∷ []) (patternOf s p₁) → ⊥
-        no-first = rw g at (h₁ bytes ends t pass right (k .0))
+        no-first : Matches (lookups (tablesOf T s t)) none (element 0 ∷ []) (patternOf s p₁) → ⊥
+        no-first = rw g at (h₁ T t pass right (k .0))
 
-        go : (r : Bool) → Decides (Matches (lookups bytes ends s t) none (element 0 ∷ []) (patternOf s p₂)) r → Decides (Matches (lookups bytes ends s t) none (element 0 ∷ []) (choice p₁ p₂)) r
+        go : (r : Bool) → Decides (Matches (lookups (tablesOf T s t)) none (element 0 ∷ []) (patternOf s p₂)) r → Decides (Matches (lookups (tablesOf T s t)) none (element 0 ∷ []) (choice p₁ p₂)) r
         go true m = choice-2 m
-        go false m = neither (lookups bytes ends s t) no-first m
+        go false m = neither (lookups (tablesOf T s t)) no-first m
 
-    -- operands are smaller rows
-    pub tells-none : (p₁ < p → p₂ < p → ⊥) → TellsRoot s pairs p false
-    tells-none n bytes ends t pass right starts m = n (falls choice-first) (falls choice-second)
-      where
-        falls : {q : ℕ} → Operand q (choice p₁ p₂) → q < p
-        falls {q} i = restricted (pass .schema) bytes ends t .falls p q (subst (Part q) (sym is-choice) (operand i))
+    -- operands are smaller rows, and of the sort that start may have
+    module _ (q : StartAsked s pairs p) where
+      less : {r : ℕ} → Operand r (choice p₁ p₂) → r < p
+      less {r} i = restricted (tablesOf (q .root .strings) s (q .root .instance)) (q .root .pass .schema) .falls p r (subst (Part r) (sym is-choice) (operand i))
+
+      pub first-less : p₁ < p
+      first-less = less choice-first
+
+      pub second-less : p₂ < p
+      second-less = less choice-second
+
+      both : Starts (lookups (tablesOf (q .root .strings) s (q .root .instance))) (patternOf s p₁) × Starts (lookups (tablesOf (q .root .strings) s (q .root .instance))) (patternOf s p₂)
+      both = sides (lookups (tablesOf (q .root .strings) s (q .root .instance))) (subst (Starts (lookups (tablesOf (q .root .strings) s (q .root .instance)))) is-choice (q .starts))
+
+      pub first-asked : StartAsked s pairs p₁
+      first-asked = record { root = q .root; starts = both .0 }
+
+      pub second-asked : StartAsked s pairs p₂
+      second-asked = record { root = q .root; starts = both .1 }
 
   -- another pattern of start is notAllowed
-  pub tells-nothing : kindOf s p ≢ 8 → kindOf s p ≢ 10 → TellsRoot s pairs p false
-  tells-nothing n₈ n₁₀ bytes ends t pass right starts = go (patternOf s p) refl starts
+  pub tells-nothing : kindOf s p ≢ kind.ref → kindOf s p ≢ kind.choice → TellsRoot s pairs p false
+  tells-nothing n₈ n₁₀ T t pass right starts = go (patternOf s p) refl starts
     where
-      go : (x : Pattern) → patternOf s p ≡ x → Starts (lookups bytes ends s t) x → Matches (lookups bytes ends s t) none (element 0 ∷ []) (patternOf s p) → ⊥
-      go x f starts-notAllowed m = never (lookups bytes ends s t) (subst (Matches (lookups bytes ends s t) none (element 0 ∷ [])) f m)
+      go : (x : Pattern) → patternOf s p ≡ x → Starts (lookups (tablesOf T s t)) x → Matches (lookups (tablesOf T s t)) none (element 0 ∷ []) (patternOf s p) → ⊥
+      go x f starts-notAllowed m = never (lookups (tablesOf T s t)) (subst (Matches (lookups (tablesOf T s t)) none (element 0 ∷ [])) f m)
       go x f starts-ref m = n₈ (from-ref (row-makes s p f) .0)
       go x f (starts-choice k₁ k₂) m = n₁₀ (from-choice (row-makes s p f) .0)
 
 -- the pattern of start is the first field of the last row
-pub tells-valid : (s pairs : List ℕ) (q : ℕ) (r : Bool) → q ≡ aOf s (rowsOf s - 1) → TellsRoot s pairs q r → TellsValid s pairs r
-tells-valid s pairs q r f h bytes ends t pass right = rw f at (h bytes ends t pass right (rw f (start-starts (pass .schema) bytes ends t)))
+module _ (s pairs : List ℕ) (q : ℕ) (f : q ≡ aOf s (rowsOf s - 1)) where
+  pub start-asked : RootAsked s pairs → StartAsked s pairs q
+  start-asked r = record { root = r; starts = rw f (start-starts (tablesOf (r .strings) s (r .instance)) (r .pass .schema)) }
+
+  pub tells-valid : (r : Bool) → TellsRoot s pairs q r → TellsValid s pairs r
+  tells-valid r h = record { tells = λ T t pass right. rw f at (h T t pass right (rw f (start-starts (tablesOf T s t) (pass .schema)))) }

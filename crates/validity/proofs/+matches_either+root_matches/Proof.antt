@@ -4,7 +4,7 @@ use mathlib.Core.Path.{refl, sym, _∙_, ap}
 use lib.ListN.{getD}
 use denote.Ref.{now}
 use borrow.Author.Needs.{needs}
-use Rattle.validity.proofs.Root.{tells-ref, tells-first, tells-second, tells-none, tells-nothing}
+use Rattle.validity.proofs.Root.{tells-ref, tells-first, tells-second, first-less, second-less, first-asked, second-asked, tells-nothing}
 use Prim.Native.Nat.{ℕ, _+_, _*_, _<_}
 use borrow.Fn.Kinds.{In}
 use borrow.Fn.PlainCycle.{Measures, is, falls, and}
@@ -83,7 +83,12 @@ matches-either-root-matches-requires : (t : ℕ) → matches-either-lts.Need-roo
   root-matches-below t,
   root-matches.Post,
 ) (matches-either-at t) matches-either.Post
-matches-either-root-matches-requires t c κs = let q = c .before .before .before .before .before .before .pre .0 in (omega arith, tt)
+matches-either-root-matches-requires t c κs =
+    let a = c .before .before .before .before .args in
+    let r = c .before .before .before .before .pre in
+    let m = r .0 in
+    let l = first-less (now (a .schema)) (now (a .pairs)) (a .p) (r .1 .0) (c .before .field-a .ensures) (c .field-b .ensures) (r .1 .1) in
+    (omega arith, first-asked (now (a .schema)) (now (a .pairs)) (a .p) (r .1 .0) (c .before .field-a .ensures) (c .field-b .ensures) (r .1 .1))
 
 matches-either-returns : (t : ℕ) → matches-either-lts.Need-returns (
   field-a-reads.Asked,
@@ -93,7 +98,9 @@ matches-either-returns : (t : ℕ) → matches-either-lts.Need-returns (
   root-matches-below t,
   root-matches.Post,
 ) (matches-either-at t) matches-either.Post
-matches-either-returns t c = tells-first (now (c .before .before .before .before .before .before .before .before .args .schema)) (now (c .before .before .before .before .before .before .before .before .args .pairs)) (c .before .before .before .before .before .before .before .before .args .p) (c .before .before .before .before .before .before .before .before .pre .1) (c .before .before .before .before .before .field-a .ensures) (c .before .before .before .before .field-b .ensures) _ (c .if3 .taken) (c .before .root-matches .ensures)
+matches-either-returns t c =
+    let a = c .before .before .before .before .before .before .args in
+    tells-first (now (a .schema)) (now (a .pairs)) (a .p) (c .before .before .before .before .before .before .pre .1 .0) (c .before .before .before .field-a .ensures) (c .before .before .field-b .ensures) _ (c .if1 .taken) (c .before .root-matches .ensures)
 
 matches-either-root-matches-requires-2 : (t : ℕ) → matches-either-lts.Need-root-matches-requires-2 (
   field-a-reads.Asked,
@@ -103,7 +110,12 @@ matches-either-root-matches-requires-2 : (t : ℕ) → matches-either-lts.Need-r
   root-matches-below t,
   root-matches.Post,
 ) (matches-either-at t) matches-either.Post
-matches-either-root-matches-requires-2 t c κs = let q = c .before .before .before .before .before .before .before .before .pre .0 in (omega arith, tt)
+matches-either-root-matches-requires-2 t c κs =
+    let a = c .before .before .before .before .before .before .args in
+    let r = c .before .before .before .before .before .before .pre in
+    let m = r .0 in
+    let l = second-less (now (a .schema)) (now (a .pairs)) (a .p) (r .1 .0) (c .before .before .before .field-a .ensures) (c .before .before .field-b .ensures) (r .1 .1) in
+    (omega arith, second-asked (now (a .schema)) (now (a .pairs)) (a .p) (r .1 .0) (c .before .before .before .field-a .ensures) (c .before .before .field-b .ensures) (r .1 .1))
 
 matches-either-returns-2 : (t : ℕ) → matches-either-lts.Need-returns-2 (
   field-a-reads.Asked,
@@ -113,27 +125,9 @@ matches-either-returns-2 : (t : ℕ) → matches-either-lts.Need-returns-2 (
   root-matches-below t,
   root-matches.Post,
 ) (matches-either-at t) matches-either.Post
-matches-either-returns-2 t c = tells-second (now (c .before .before .before .before .before .before .before .before .before .args .schema)) (now (c .before .before .before .before .before .before .before .before .before .args .pairs)) (c .before .before .before .before .before .before .before .before .before .args .p) (c .before .before .before .before .before .before .before .before .before .pre .1) (c .before .before .before .before .before .before .field-a .ensures) (c .before .before .before .before .before .field-b .ensures) _ (c .root-matches2 .result) (c .before .if3 .left) (c .before .before .root-matches .ensures) (c .root-matches2 .ensures)
-
-matches-either-returns-3 : (t : ℕ) → matches-either-lts.Need-returns-3 (
-  field-a-reads.Asked,
-  field-a-reads.Learnt,
-  field-b-reads.Asked,
-  field-b-reads.Learnt,
-  root-matches-below t,
-  root-matches.Post,
-) (matches-either-at t) matches-either.Post
-matches-either-returns-3 t c = tells-none (now (c .before .before .before .before .before .before .args .schema)) (now (c .before .before .before .before .before .before .args .pairs)) (c .before .before .before .before .before .before .args .p) (c .before .before .before .before .before .before .pre .1) (c .before .before .before .field-a .ensures) (c .before .before .field-b .ensures) (λ h l. omega arith)
-
-matches-either-returns-4 : (t : ℕ) → matches-either-lts.Need-returns-4 (
-  field-a-reads.Asked,
-  field-a-reads.Learnt,
-  field-b-reads.Asked,
-  field-b-reads.Learnt,
-  root-matches-below t,
-  root-matches.Post,
-) (matches-either-at t) matches-either.Post
-matches-either-returns-4 t c = tells-none (now (c .before .before .before .before .before .args .schema)) (now (c .before .before .before .before .before .args .pairs)) (c .before .before .before .before .before .args .p) (c .before .before .before .before .before .pre .1) (c .before .before .field-a .ensures) (c .before .field-b .ensures) (λ h l. omega arith)
+matches-either-returns-2 t c =
+    let a = c .before .before .before .before .before .before .before .args in
+    tells-second (now (a .schema)) (now (a .pairs)) (a .p) (c .before .before .before .before .before .before .before .pre .1 .0) (c .before .before .before .before .field-a .ensures) (c .before .before .before .field-b .ensures) _ (c .root-matches2 .result) (c .before .if1 .left) (c .before .before .root-matches .ensures) (c .root-matches2 .ensures)
 
 root-matches-kind-requires : (t : ℕ) → root-matches-lts.Need-kind-requires (
   kind-reads.Asked,
@@ -193,7 +187,7 @@ root-matches-matches-either-requires : (t : ℕ) → root-matches-lts.Need-match
   matches-either-below t,
   matches-either.Post,
 ) (root-matches-at t) root-matches.Post
-root-matches-matches-either-requires t c κs = let q = c .before .before .before .before .pre .0 in (omega arith, sym (c .before .kind .ensures) ∙ c .match .keys2)
+root-matches-matches-either-requires t c κs = let q = c .before .before .before .before .pre .0 in (omega arith, (sym (c .before .kind .ensures) ∙ c .match .keys2, c .before .before .before .before .pre .1))
 
 root-matches-returns : (t : ℕ) → root-matches-lts.Need-returns (
   kind-reads.Asked,
@@ -248,9 +242,7 @@ pub +matches-either+root-matches-spec : {M : Type 1} → statement M
     (matches-either-root-matches-requires t)
     (matches-either-returns t)
     (matches-either-root-matches-requires-2 t)
-    (matches-either-returns-2 t)
-    (matches-either-returns-3 t)
-    (matches-either-returns-4 t))
+    (matches-either-returns-2 t))
     λ t. root-matches-lts.spec (
       kind-reads.Asked,
       kind-reads.Learnt,
