@@ -1,5 +1,5 @@
 -- From the table of pairs, the definitions and the list of what the table marks to the match list and the answer.
-use Prim.Native.Nat.{ℕ, _≤_, _<_}
+use Prim.Native.Nat.{ℕ, _*_, _≤_, _<_}
 use mathlib.Core.Path.{_≡_, sym, _∙_, subst}
 use mathlib.Core.Bool.{Bool, true, false}
 use mathlib.Core.Logic.{_↔_}
@@ -8,7 +8,9 @@ use native.Mathlib.Omega.{arith}
 use lib.ListN.{length, getD, take}
 use lib.Seq.{getD-take, length-take-le}
 use borrow.Author.Tests.{eq-eqb, eqb-true}
+use Rattle.tables.specs.Tables.{Tables}
 use Rattle.tables.specs.Answers.{Decides}
+use Rattle.tables.specs.Outputs.{zeros}
 use Rattle.tables.proofs.Answers.{decides-same}
 use Rattle.schema.specs.Rows.{rowsOf}
 use Rattle.schema.proofs.Sorts.{definition-kind}
@@ -24,7 +26,7 @@ use Rattle.rules.proofs.Inversion.{against}
 use Rattle.rules.proofs.RowPatterns.{has-kind}
 use Rattle.rules.proofs.Validity.{valid}
 use Rattle.pairs.specs.Pairs.{TablesPass, PairsRight}
-use Rattle.listing.specs.Listing.{isMarked, markedPairs, ListsPairs}
+use Rattle.listing.specs.Listing.{isMarked, markedPairs, ListsPairs, whole, short}
 use Rattle.listing.specs.declared.Listed.{Listed}
 use Rattle.listing.specs.declared.Listed.the-variants as listed
 use Rattle.listing.proofs.Order.{marked-rising, marked-lists}
@@ -32,31 +34,43 @@ use Rattle.validity.proofs.Root.{root-element}
 use Rattle.matches.specs.MatchList.{MatchList, Written, Answers}
 use Rattle.matches.specs.declared.Answer.the-variants as answer
 
-module _ {bytes ends s t : List ℕ} (pass : TablesPass bytes ends s t) where
+pairs-short : {n : ℕ} → listed.Pairs n ≡ listed.TooShort → ⊥
+pairs-short e = let z : _≡_ {A = ℕ} 0 1 = cc in omega arith
+
+pairs-number : {n m : ℕ} → listed.Pairs n ≡ listed.Pairs m → n ≡ m
+pairs-number e = cc e
+
+module _ {J : Tables} (pass : TablesPass J) where
+  abbrev s : List ℕ
+  s = J .schema
+
+  abbrev t : List ℕ
+  t = J .instance
+
   pub nodes-few : nodesOf t ≤ maxNodes
   nodes-few = few-nodes (λ k i. pass .nodes k (bad-size i))
 
   -- an element is a pair with a definition exactly by the premises of (element)
-  proved : (e d : ℕ) → Proved (lookups bytes ends s t) e d ↔ Paired (lookups bytes ends s t) (NotMatchBy (lookups bytes ends s t) (rowsOf s)) e d
-  proved e d = against (lookups bytes ends s t) (NotMatchBy (lookups bytes ends s t) (rowsOf s)) e d
+  proved : (e d : ℕ) → Proved (lookups J) e d ↔ Paired (lookups J) (NotMatchBy (lookups J) (rowsOf s)) e d
+  proved e d = against (lookups J) (NotMatchBy (lookups J) (rowsOf s)) e d
 
   -- valid by 9.4, and by the pairs of the root
-  root-paired : {l : List (ℕ × ℕ)} → MatchList bytes ends s t l → Valid bytes ends s t ↔ ((d : ℕ) × StartNames bytes ends s t d × List·Memᴰ (0, d) l)
+  root-paired : {l : List (ℕ × ℕ)} → MatchList J l → Valid J ↔ ((d : ℕ) × StartNames J d × List·Memᴰ (0, d) l)
   root-paired m =
-      let v = valid (pass .schema) bytes ends t in (
+      let v = valid J (pass .schema) in (
         λ x. let y = v .0 x in (y .0, y .1, m .lists .complete 0 (y .0) (some-node (pass .nodes), root-element (pass .nodes), y .2)),
         λ y. v .1 (y .0, y .1, m .lists .sound 0 (y .0) (y .2) .2),
       )
 
-  module _ {table rows : List ℕ} {n : ℕ} (right : PairsRight bytes ends s t table) (definitions : Definitions s rows n) (room : n ≤ length rows) where
+  module _ {table rows : List ℕ} {n : ℕ} (right : PairsRight J table) (definitions : Definitions s rows n) (room : n ≤ length rows) where
     size : length (take n rows) ≡ n
     size = length-take-le n rows room
 
     at : (k : ℕ) → k < n → getD (take n rows) k 0 ≡ getD rows k 0
     at k h = getD-take n rows k 0 h
 
-    is-match-list : MatchList bytes ends s t (markedPairs table (take n rows) (nodesOf t))
-    is-match-list = record { rising = marked-rising table (take n rows) rising (nodesOf t); lists = marked-lists table (take n rows) rising (Pair bytes ends s t) (nodesOf t) sound complete }
+    is-match-list : MatchList J (markedPairs table (take n rows) (nodesOf t))
+    is-match-list = record { rising = marked-rising table (take n rows) rising (nodesOf t); lists = marked-lists table (take n rows) rising (Pair J) (nodesOf t) sound complete }
       where
         rising : (j k : ℕ) → j < k → k < length (take n rows) → getD (take n rows) j 0 < getD (take n rows) k 0
         rising j k i h =
@@ -66,7 +80,7 @@ module _ {bytes ends s t : List ℕ} (pass : TablesPass bytes ends s t) where
             let z = definitions .rising j k i l in
             omega arith
 
-        sound : (e k : ℕ) → e < nodesOf t → k < length (take n rows) → isMarked table e (getD (take n rows) k 0) ≡ true → Pair bytes ends s t e (getD (take n rows) k 0)
+        sound : (e k : ℕ) → e < nodesOf t → k < length (take n rows) → isMarked table e (getD (take n rows) k 0) ≡ true → Pair J e (getD (take n rows) k 0)
         sound e k h l m =
             let i : k < n = subst (λ (m : ℕ). k < m) size l in
             let x = at k i in
@@ -74,7 +88,7 @@ module _ {bytes ends s t : List ℕ} (pass : TablesPass bytes ends s t) where
             let p = right .entries e (getD (take n rows) k 0) (omega arith) h (omega arith) .0 (eqb-true _ _ m) in
             (h, p .0, proved e (getD (take n rows) k 0) .1 (p .1))
 
-        complete : (e d : ℕ) → Pair bytes ends s t e d → (e < nodesOf t) × (k : ℕ) × (k < length (take n rows)) × (getD (take n rows) k 0 ≡ d) × (isMarked table e d ≡ true)
+        complete : (e d : ℕ) → Pair J e d → (e < nodesOf t) × (k : ℕ) × (k < length (take n rows)) × (getD (take n rows) k 0 ≡ d) × (isMarked table e d ≡ true)
         complete e d p =
             let q = proved e d .0 (p .2) in
             let l = has-kind (pass .schema .rows) (definition-kind s d (q .defined)) (λ z. omega arith) in
@@ -83,28 +97,31 @@ module _ {bytes ends s t : List ℕ} (pass : TablesPass bytes ends s t) where
 
   -- ---- the answers
 
-  module _ {table rows : List ℕ} {n : ℕ} (right : PairsRight bytes ends s t table) (definitions : rowsOf s ≤ 512 → Definitions s rows n) (long : n ≤ length rows)
+  module _ {table rows : List ℕ} {n : ℕ} (right : PairsRight J table) (definitions : Definitions s rows n) (long : n ≤ length rows)
       {room : ℕ} {list : List ℕ} {r : Listed} (lists : ListsPairs table (take n rows) (nodesOf t) room list r) where
-    all : MatchList bytes ends s t (markedPairs table (take n rows) (nodesOf t))
-    all = is-match-list right (definitions (few-rows (right-size (pass .schema .rows)))) long
+    abbrev marked : List (ℕ × ℕ)
+    marked = markedPairs table (take n rows) (nodesOf t)
 
-    pub too-short : n ≤ 512 → r ≡ listed.TooShort → Answers bytes ends s t room list answer.TooShort
-    too-short few e = record {
-      pairs = markedPairs table (take n rows) (nodesOf t);
-      all = all;
-      says = (lists .too-short e nodes-few (rw (length-take-le n rows long) few), lists .zeroed e);
-    }
+    all : MatchList J marked
+    all = is-match-list right definitions long
+
+    pub too-short : r ≡ listed.TooShort → Answers J room list answer.TooShort
+    too-short e = record { pairs = marked; all = all; says = go lists }
+      where
+        go : ListsPairs table (take n rows) (nodesOf t) room list r → (room < length marked * 2) × (list ≡ zeros room)
+        go (whole f q w) = absurd (pairs-short (sym q ∙ e))
+        go (short l q z) = (l, z)
 
     module _ {number : ℕ} (e : r ≡ listed.Pairs number) where
-      whole : (valid : Bool) → Decides (Valid bytes ends s t) valid → Written bytes ends s t (markedPairs table (take n rows) (nodesOf t)) room list number valid
-      whole valid d =
-          let c = lists .listed number e in
-          let f = lists .fits number e in
-          let k = c .0 in
-          record { fit = omega arith; words = c .1; counted = c .0; rooted = decides-same valid (root-paired all .0) (root-paired all .1) d; derived = d }
+      written : (valid : Bool) → Decides (Valid J) valid → Written J marked room list number valid
+      written valid d = go lists
+        where
+          go : ListsPairs table (take n rows) (nodesOf t) room list r → Written J marked room list number valid
+          go (whole f q w) = record { fit = f; words = w; counted = pairs-number (sym e ∙ q); rooted = decides-same valid (root-paired all .0) (root-paired all .1) d; derived = d }
+          go (short l q z) = absurd (pairs-short (sym e ∙ q))
 
-      pub is-valid : Decides (Valid bytes ends s t) true → Answers bytes ends s t room list (answer.Valid number)
-      is-valid d = record { pairs = markedPairs table (take n rows) (nodesOf t); all = all; says = whole true d }
+      pub is-valid : Decides (Valid J) true → Answers J room list (answer.Valid number)
+      is-valid d = record { pairs = marked; all = all; says = written true d }
 
-      pub not-valid : Decides (Valid bytes ends s t) false → Answers bytes ends s t room list (answer.NotValid number)
-      not-valid d = record { pairs = markedPairs table (take n rows) (nodesOf t); all = all; says = whole false d }
+      pub not-valid : Decides (Valid J) false → Answers J room list (answer.NotValid number)
+      not-valid d = record { pairs = marked; all = all; says = written false d }

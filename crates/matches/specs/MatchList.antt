@@ -4,6 +4,7 @@ use mathlib.Core.Path.{_≡_}
 use mathlib.Core.Bool.{Bool, true, false}
 use mathlib.Core.List.{List, List·Memᴰ}
 use lib.ListN.{length}
+use Rattle.tables.specs.Tables.{Tables}
 use Rattle.tables.specs.Answers.{Decides}
 use Rattle.tables.specs.Outputs.{zeros, laid}
 use Rattle.rules.specs.Job.{Pair, StartNames}
@@ -13,28 +14,28 @@ use Rattle.matches.specs.declared.Answer.{Answer}
 use Rattle.matches.specs.declared.Answer.the-variants.{Valid, NotValid, TooShort}
 
 -- l is all pairs of an element and a definition that it is proved against, by element and then by definition, each once
-pub record MatchList (bytes ends s t : List ℕ) (l : List (ℕ × ℕ)) : Type 0 where
+pub record MatchList (J : Tables) (l : List (ℕ × ℕ)) : Type 0 where
   pub rising : Rising l
-  pub lists : Lists (Pair bytes ends s t) l
+  pub lists : Lists (Pair J) l
 
 -- the match list l in a list of so many words, with the number of its pairs and valid or not
-pub record Written (bytes ends s t : List ℕ) (l : List (ℕ × ℕ)) (room : ℕ) (list : List ℕ) (number : ℕ) (valid : Bool) : Type 0 where
+pub record Written (J : Tables) (l : List (ℕ × ℕ)) (room : ℕ) (list : List ℕ) (number : ℕ) (valid : Bool) : Type 0 where
   pub fit : length l * 2 ≤ room
   -- the two words of each pair in order, then zeros
   pub words : list ≡ laid room (pairWords l)
   pub counted : number ≡ length l
   -- valid exactly when the root is paired with a definition that the start names, which is when a derivation by (valid) of 9.4 exists
-  pub rooted : Decides ((d : ℕ) × StartNames bytes ends s t d × List·Memᴰ (0, d) l) valid
-  pub derived : Decides (job.Valid bytes ends s t) valid
+  pub rooted : Decides ((d : ℕ) × StartNames J d × List·Memᴰ (0, d) l) valid
+  pub derived : Decides (job.Valid J) valid
 
 -- what each answer says of the match list l and of the list of so many words
-abbrev pub Says : (bytes ends s t : List ℕ) (l : List (ℕ × ℕ)) (room : ℕ) (list : List ℕ) → Answer → Type 0
-Says bytes ends s t l room list (Valid number) = Written bytes ends s t l room list number true
-Says bytes ends s t l room list (NotValid number) = Written bytes ends s t l room list number false
-Says bytes ends s t l room list TooShort = (room < length l * 2) × (list ≡ zeros room)
+abbrev pub Says : (J : Tables) (l : List (ℕ × ℕ)) (room : ℕ) (list : List ℕ) → Answer → Type 0
+Says J l room list (Valid number) = Written J l room list number true
+Says J l room list (NotValid number) = Written J l room list number false
+Says J l room list TooShort = (room < length l * 2) × (list ≡ zeros room)
 
 -- the whole promise: there is a match list, and the answer is told of it
-pub record Answers (bytes ends s t : List ℕ) (room : ℕ) (list : List ℕ) (r : Answer) : Type 0 where
+pub record Answers (J : Tables) (room : ℕ) (list : List ℕ) (r : Answer) : Type 0 where
   pub pairs : List (ℕ × ℕ)
-  pub all : MatchList bytes ends s t pairs
-  pub says : Says bytes ends s t pairs room list r
+  pub all : MatchList J pairs
+  pub says : Says J pairs room list r

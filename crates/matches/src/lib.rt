@@ -1,10 +1,8 @@
 // The match list of a schema and an instance, and with it whether the instance is valid.
 use listing::Listed;
-ghost use Prim.Native.Nat.{_*_, _≤_};
 ghost use lib.ListN.{length};
-ghost use Rattle.schema.specs.RowRule.{maxRows};
-ghost use Rattle.instance.specs.NodeRule.{maxNodes};
-ghost use Rattle.pairs.specs.Pairs.{TablesPass};
+ghost use Rattle.tables.specs.Tables.{stringTable, tablesOf};
+ghost use Rattle.pairs.specs.Pairs.{Pairable, PairsRight};
 ghost use Rattle.matches.specs.MatchList.{Answers};
 
 // Whether the instance is valid, with the number of pairs of the match list; or that the lent list is too short for them.
@@ -14,7 +12,7 @@ pub enum Answer {
     TooShort,
 }
 
-// The match list of tables that pass, with a lent table of pairs that has room for every instance row and every schema row. Nothing is promised of other tables, nor with less room.
+// The match list of tables that pass, with a lent table of pairs, which is filled.
 pub fn match_pairs(
     bytes: &[u8],
     ends: &[u32],
@@ -23,15 +21,14 @@ pub fn match_pairs(
     pairs: &mut [u8],
     list: &mut [u32],
 ) -> Answer
-    ensures { λ r. ⌜ (maxNodes * maxRows ≤ length (now (pairs .entry)) → TablesPass (now (bytes .entry)) (now (ends .entry)) (now (schema .entry)) (now (instance .entry)) → Answers (now (bytes .entry)) (now (ends .entry)) (now (schema .entry)) (now (instance .entry)) (length (now (list .entry))) (now (list .exit)) r) ⌝ }
+    requires { ⌜ Pairable (tablesOf (stringTable (now bytes) (now ends)) (now schema) (now instance)) (now pairs) ⌝ }
+    ensures { λ r. ⌜ Answers (tablesOf (stringTable (now (bytes .entry)) (now (ends .entry))) (now (schema .entry)) (now (instance .entry))) (length (now (list .entry))) (now (list .exit)) r ⌝ }
+    ensures filled { λ _. ⌜ PairsRight (tablesOf (stringTable (now (bytes .entry)) (now (ends .entry))) (now (schema .entry)) (now (instance .entry))) (now (pairs .exit)) ⌝ }
 {
-    let nodes = instance.len() / 5;
-    if instance::MAX_NODES < nodes {
-        return Answer::TooShort;
-    }
     pairs::pair_table(bytes, ends, schema, instance, pairs);
-    let mut rows = [0u32; 512];
+    let mut rows = [0u32; schema::MAX_ROWS];
     let n = definitions::definitions(schema, &mut rows) as usize;
+    let nodes = instance.len() / 5;
     let listed = listing::list_pairs(pairs, &rows[..n], nodes as u32, list);
     let Listed::Pairs(number) = listed else {
         return Answer::TooShort;
