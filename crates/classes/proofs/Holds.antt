@@ -1,13 +1,13 @@
 -- What a class holds, by the kind and the fields of its row.
 use Prim.Native.Nat.{ℕ, _≤_}
 use mathlib.Core.Path.{_≡_, refl, sym, _∙_}
-use mathlib.Core.Bool.{Bool, true, false, not, cond, _&&_, _||_}
+use mathlib.Core.Bool.{Bool, true, false, not, cond, _&&_, _||_, and-true}
 use mathlib.Core.List.{List}
 use native.Mathlib.Omega.{arith}
 use lib.Dec.{eqb}
 use borrow.Author.Tests.{eqb-true, ne-eqb}
 use Rattle.schema.specs.Falling.{upto}
-use Rattle.schema.specs.Kinds.{none}
+use Rattle.schema.specs.Kinds as kind
 use Rattle.schema.specs.Rows.{kindOf, aOf, bOf}
 use Rattle.schema.specs.Views.{anyName, anyNameExcept, nsName, nsNameExcept, classOf, classBy}
 use Rattle.schema.proofs.Falling.{upto-above}
@@ -25,35 +25,31 @@ pub record Read (s : List ℕ) (row k a b : ℕ) : Type 0 where
 module _ (s : List ℕ) (u l row : ℕ) where
   module _ {k a b : ℕ} (read : Read s row k a b) where
     -- the number of no row is no smaller row: it holds nothing, so that an except of it takes nothing away
-    module _ (low : row ≤ none) where
-      pub holds-16 : k ≡ 16 → holds s u l row ≡ not (upto (step s u l) row a)
+    module _ (low : row ≤ kind.none) where
+      pub holds-anyName : k ≡ kind.anyName → holds s u l row ≡ not (upto (step s u l) row a)
       unfolding holds classBy
-      holds-16 e = rw (sym (read .kind) ∙ e, ← read .first) (go (eqb a none) refl)
+      holds-anyName e = rw (sym (read .kind) ∙ e, ← read .first) (go (eqb a kind.none) refl)
         where
-          go : (t : Bool) → eqb a none ≡ t → memberBy (upto (step s u l) row) u l (cond t anyName (anyNameExcept a)) ≡ not (upto (step s u l) row a)
-          go true f = let g = eqb-true a none f in rw (upto-above (step s u l) row a (omega arith))
+          go : (t : Bool) → eqb a kind.none ≡ t → memberBy (upto (step s u l) row) u l (cond t anyName (anyNameExcept a)) ≡ not (upto (step s u l) row a)
+          go true f = let g = eqb-true a kind.none f in rw (upto-above (step s u l) row a (omega arith))
           go false f = refl
 
-      pub holds-17 : k ≡ 17 → holds s u l row ≡ (eqb u a && not (upto (step s u l) row b))
+      pub holds-nsName : k ≡ kind.nsName → holds s u l row ≡ (eqb u a && not (upto (step s u l) row b))
       unfolding holds classBy
-      holds-17 e = rw (sym (read .kind) ∙ e, ← read .first, ← read .second) (go (eqb b none) refl)
+      holds-nsName e = rw (sym (read .kind) ∙ e, ← read .first, ← read .second) (go (eqb b kind.none) refl)
         where
-          all : (t : Bool) → t ≡ (t && true)
-          all true = refl
-          all false = refl
-
-          go : (t : Bool) → eqb b none ≡ t → memberBy (upto (step s u l) row) u l (cond t (nsName a) (nsNameExcept a b)) ≡ (eqb u a && not (upto (step s u l) row b))
-          go true f = let g = eqb-true b none f in rw (upto-above (step s u l) row b (omega arith)) (all (eqb u a))
+          go : (t : Bool) → eqb b kind.none ≡ t → memberBy (upto (step s u l) row) u l (cond t (nsName a) (nsNameExcept a b)) ≡ (eqb u a && not (upto (step s u l) row b))
+          go true f = let g = eqb-true b kind.none f in rw (upto-above (step s u l) row b (omega arith)) (sym (and-true (eqb u a)))
           go false f = refl
 
-    pub holds-18 : k ≡ 18 → holds s u l row ≡ (eqb u a && eqb l b)
+    pub holds-name : k ≡ kind.name → holds s u l row ≡ (eqb u a && eqb l b)
     unfolding holds classBy
-    holds-18 e = rw (read .first, read .second, sym (read .kind) ∙ e)
+    holds-name e = rw (read .first, read .second, sym (read .kind) ∙ e)
 
-    pub holds-19 : k ≡ 19 → holds s u l row ≡ (upto (step s u l) row a || upto (step s u l) row b)
+    pub holds-nameChoice : k ≡ kind.nameChoice → holds s u l row ≡ (upto (step s u l) row a || upto (step s u l) row b)
     unfolding holds classBy
-    holds-19 e = rw (read .first, read .second, sym (read .kind) ∙ e)
+    holds-nameChoice e = rw (read .first, read .second, sym (read .kind) ∙ e)
 
-    pub holds-other : (k ≡ 16 → ⊥) → (k ≡ 17 → ⊥) → (k ≡ 18 → ⊥) → (k ≡ 19 → ⊥) → holds s u l row ≡ false
+    pub holds-other : (k ≡ kind.anyName → ⊥) → (k ≡ kind.nsName → ⊥) → (k ≡ kind.name → ⊥) → (k ≡ kind.nameChoice → ⊥) → holds s u l row ≡ false
     unfolding holds classBy
-    holds-other p q r t = rw (← read .kind, ne-eqb k 16 p, ne-eqb k 17 q, ne-eqb k 18 r, ne-eqb k 19 t)
+    holds-other p q r t = rw (← read .kind, ne-eqb k kind.anyName p, ne-eqb k kind.nsName q, ne-eqb k kind.name r, ne-eqb k kind.nameChoice t)

@@ -9,7 +9,7 @@ use lib.Dec.{ltb, eqb}
 use lib.ListN.{length}
 use borrow.Author.Tests.{lt-ltb}
 use Rattle.schema.specs.Falling.{upto}
-use Rattle.schema.specs.Kinds.{none}
+use Rattle.schema.specs.Kinds as kind
 use Rattle.schema.specs.Relations.{Child, by-a, by-b}
 use Rattle.schema.specs.Rows.{kindOf, aOf, bOf, shapeOf, sortOf, isClass, names}
 use Rattle.schema.proofs.Falling.{upto-below, upto-above}
@@ -20,7 +20,7 @@ use Rattle.classes.specs.Search.{mentionOf}
 use Rattle.classes.specs.declared.Mention.the-variants.{Of}
 use Rattle.classes.specs.declared.Part.{Part}
 use Rattle.classes.specs.declared.Part.the-variants.{Namespace, Local}
-use Rattle.classes.proofs.Holds.{step, Read, holds-16, holds-17, holds-18, holds-19, holds-other}
+use Rattle.classes.proofs.Holds.{step, Read, holds-anyName, holds-nsName, holds-name, holds-nameChoice, holds-other}
 
 -- a row of another sort is no class, and holds nothing
 class-kind : (k j : ℕ) → isClass (shapeOf j .sort) ≡ true → isClass (shapeOf k .sort) ≡ false → k ≡ j → ⊥
@@ -30,7 +30,7 @@ no-class : (s : List ℕ) (u l r : ℕ) → isClass (sortOf s r) ≡ false → h
 unfolding shapeOf
 no-class s u l r n =
     holds-other s u l r (record { kind = refl; first = refl; second = refl })
-    (class-kind (kindOf s r) 16 refl n) (class-kind (kindOf s r) 17 refl n) (class-kind (kindOf s r) 18 refl n) (class-kind (kindOf s r) 19 refl n)
+    (class-kind (kindOf s r) kind.anyName refl n) (class-kind (kindOf s r) kind.nsName refl n) (class-kind (kindOf s r) kind.name refl n) (class-kind (kindOf s r) kind.nameChoice refl n)
 
 -- the two numbers are alike to every marked row that mentions such a part
 abbrev pub Alike : List ℕ → List ℕ → Part → ℕ → ℕ → Type 0
@@ -56,34 +56,34 @@ module _ (s m : List ℕ) (u l u′ l′ : ℕ) where
           upto-below (step s u l) c x h ∙ no-class s u l x e ∙ sym (no-class s u′ l′ x e) ∙ sym (upto-below (step s u′ l′) c x h)
       go (no h) t e = upto-above (step s u l) c x (omega arith) ∙ sym (upto-above (step s u′ l′) c x (omega arith))
 
-  module _ (closed : (p r : ℕ) → Marked m p → Child s p r → Marked m r) (low : length m ≤ none) (spaces : Alike s m Namespace u u′) (locals : Alike s m Local l l′) where
+  module _ (closed : (p r : ℕ) → Marked m p → Child s p r → Marked m r) (low : length m ≤ kind.none) (spaces : Alike s m Namespace u u′) (locals : Alike s m Local l l′) where
     by-kind : (c : ℕ) → Marked m c → ((x : ℕ) → x < c → Marked m x → holds s u l x ≡ holds s u′ l′ x) → holds s u l c ≡ holds s u′ l′ c
     unfolding shapeOf
-    by-kind c h same = go (ℕ-discrete (kindOf s c) 16) (ℕ-discrete (kindOf s c) 17) (ℕ-discrete (kindOf s c) 18) (ℕ-discrete (kindOf s c) 19)
+    by-kind c h same = go (ℕ-discrete (kindOf s c) kind.anyName) (ℕ-discrete (kindOf s c) kind.nsName) (ℕ-discrete (kindOf s c) kind.name) (ℕ-discrete (kindOf s c) kind.nameChoice)
       where
         read : Read s c (kindOf s c) (aOf s c) (bOf s c)
         read = record { kind = refl; first = refl; second = refl }
 
-        fits : c ≤ none
+        fits : c ≤ kind.none
         fits = omega (arith, marked-row m c h)
 
         at : (x : ℕ) → (x < c → isClass (sortOf s x) ≡ true → Child s c x) → upto (step s u l) c x ≡ upto (step s u′ l′) c x
         at x child = below c x (same x) (λ k e. closed c x h (child k e))
 
-        go : Dec (kindOf s c ≡ 16) → Dec (kindOf s c ≡ 17) → Dec (kindOf s c ≡ 18) → Dec (kindOf s c ≡ 19) → holds s u l c ≡ holds s u′ l′ c
-        go (yes k) d e f = holds-16 s u l c read fits k ∙ ap not (at (aOf s c) (child-a s c 16 (λ x. refl) k)) ∙ sym (holds-16 s u′ l′ c read fits k)
+        go : Dec (kindOf s c ≡ kind.anyName) → Dec (kindOf s c ≡ kind.nsName) → Dec (kindOf s c ≡ kind.name) → Dec (kindOf s c ≡ kind.nameChoice) → holds s u l c ≡ holds s u′ l′ c
+        go (yes k) d e f = holds-anyName s u l c read fits k ∙ ap not (at (aOf s c) (child-a s c kind.anyName (λ x. refl) k)) ∙ sym (holds-anyName s u′ l′ c read fits k)
         go (no i) (yes k) e f =
-            holds-17 s u l c read fits k
-            ∙ ap₂ (λ x y. x && not y) (spaces c (aOf s c) h (rw k)) (at (bOf s c) (child-b s c 17 (λ x. refl) k))
-            ∙ sym (holds-17 s u′ l′ c read fits k)
+            holds-nsName s u l c read fits k
+            ∙ ap₂ (λ x y. x && not y) (spaces c (aOf s c) h (rw k)) (at (bOf s c) (child-b s c kind.nsName (λ x. refl) k))
+            ∙ sym (holds-nsName s u′ l′ c read fits k)
         go (no i) (no j) (yes k) f =
-            holds-18 s u l c read k
+            holds-name s u l c read k
             ∙ ap₂ _&&_ (spaces c (aOf s c) h (rw k)) (locals c (bOf s c) h (rw k))
-            ∙ sym (holds-18 s u′ l′ c read k)
+            ∙ sym (holds-name s u′ l′ c read k)
         go (no i) (no j) (no o) (yes k) =
-            holds-19 s u l c read k
-            ∙ ap₂ _||_ (at (aOf s c) (child-a s c 19 (λ x. refl) k)) (at (bOf s c) (child-b s c 19 (λ x. refl) k))
-            ∙ sym (holds-19 s u′ l′ c read k)
+            holds-nameChoice s u l c read k
+            ∙ ap₂ _||_ (at (aOf s c) (child-a s c kind.nameChoice (λ x. refl) k)) (at (bOf s c) (child-b s c kind.nameChoice (λ x. refl) k))
+            ∙ sym (holds-nameChoice s u′ l′ c read k)
         go (no i) (no j) (no o) (no k) = holds-other s u l c read i j o k ∙ sym (holds-other s u′ l′ c read i j o k)
 
     upto-same : (n c : ℕ) → c < n → Marked m c → holds s u l c ≡ holds s u′ l′ c

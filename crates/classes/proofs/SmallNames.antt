@@ -9,7 +9,7 @@ use lib.Dec.{ltb, eqb}
 use lib.ListN.{length, replicate, length-replicate}
 use borrow.Author.Tests.{eqb-true, ne-eqb, ltb-true}
 use Rattle.tables.proofs.Booleans.{and-both}
-use Rattle.schema.specs.Kinds.{none}
+use Rattle.schema.specs.Kinds as kind
 use Rattle.schema.specs.Rows.{rowsOf, kindOf, aOf, bOf, shapeOf}
 use Rattle.schema.specs.Relations.{Child}
 use Rattle.schema.specs.RowRule.{RowsRight}
@@ -65,24 +65,24 @@ module _ {strings : ℕ} {s : List ℕ} (right : RowsRight strings s) where
   in-marks r h = rw (length-replicate {A = ℕ} (rowsOf s) 1) at (marked-row marks r h)
 
   -- the numbers that a row mentions are below the number of strings
-  one-of : (k a x : ℕ) → cond (eqb k 17) (Of a) (cond (eqb k 18) (Of a) NoMention) ≡ Of x → (k ≡ 17 → a < strings) → (k ≡ 18 → a < strings) → x < strings
-  one-of k a x e f g = go (eqb k 17) refl (eqb k 18) refl e
+  one-of : (k a x : ℕ) → cond (eqb k kind.nsName) (Of a) (cond (eqb k kind.name) (Of a) NoMention) ≡ Of x → (k ≡ kind.nsName → a < strings) → (k ≡ kind.name → a < strings) → x < strings
+  one-of k a x e f g = go (eqb k kind.nsName) refl (eqb k kind.name) refl e
     where
-      go : (b : Bool) → eqb k 17 ≡ b → (c : Bool) → eqb k 18 ≡ c → cond b (Of a) (cond c (Of a) NoMention) ≡ Of x → x < strings
-      go true h c i e = let z : a ≡ x = cc in let l = f (eqb-true k 17 h) in omega arith
-      go false h true i e = let z : a ≡ x = cc in let l = g (eqb-true k 18 i) in omega arith
+      go : (b : Bool) → eqb k kind.nsName ≡ b → (c : Bool) → eqb k kind.name ≡ c → cond b (Of a) (cond c (Of a) NoMention) ≡ Of x → x < strings
+      go true h c i e = let z : a ≡ x = cc in let l = f (eqb-true k kind.nsName h) in omega arith
+      go false h true i e = let z : a ≡ x = cc in let l = g (eqb-true k kind.name i) in omega arith
       go false h false i e = let z : _≡_ {A = ℕ} 0 1 = cc in absurd (omega arith)
 
   mentioned : (part : Part) (r x : ℕ) → r < rowsOf s → mentionOf s r part ≡ Of x → x < strings
   unfolding shapeOf
   mentioned Namespace r x h e =
       one-of (kindOf s r) (aOf s r) x e (λ k. ltb-true (aOf s r) strings (rw k at (both-fields strings s right r h .0))) (λ k. ltb-true (aOf s r) strings (rw k at (both-fields strings s right r h .0)))
-  mentioned Local r x h e = go (eqb (kindOf s r) 18) refl e
+  mentioned Local r x h e = go (eqb (kindOf s r) kind.name) refl e
     where
-      go : (b : Bool) → eqb (kindOf s r) 18 ≡ b → cond b (Of (bOf s r)) NoMention ≡ Of x → x < strings
+      go : (b : Bool) → eqb (kindOf s r) kind.name ≡ b → cond b (Of (bOf s r)) NoMention ≡ Of x → x < strings
       go true i e =
           let z : bOf s r ≡ x = cc in
-          let t : (ltb 0 (bOf s r) && ltb (bOf s r) strings) ≡ true = rw (eqb-true (kindOf s r) 18 i) at (both-fields strings s right r h .1) in
+          let t : (ltb 0 (bOf s r) && ltb (bOf s r) strings) ≡ true = rw (eqb-true (kindOf s r) kind.name i) at (both-fields strings s right r h .1) in
           let l = ltb-true (bOf s r) strings (and-both (ltb 0 (bOf s r)) (ltb (bOf s r) strings) t .1) in
           omega arith
       go false i e = let z : _≡_ {A = ℕ} 0 1 = cc in absurd (omega arith)
@@ -105,7 +105,7 @@ module _ {strings : ℕ} {s : List ℕ} (right : RowsRight strings s) where
       closed : (p r : ℕ) → Marked marks p → Child s p r → Marked marks r
       closed p r i c = ones (rowsOf s) r (let a = child-less c in let b = in-marks p i in omega arith)
 
-      fits : length marks ≤ none
+      fits : length marks ≤ kind.none
       fits = rw (length-replicate {A = ℕ} (rowsOf s) 1) (let a = few-rows (right-size right) in omega arith)
 
   pub small-name : (c d u l : ℕ) → Common s c d u l → SmallName strings s c d u l

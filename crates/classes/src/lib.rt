@@ -63,7 +63,8 @@ fn class_holds(schema: &[u32], row: u32, namespace: u32, local: u32) -> bool
     }
 }
 
-// Whether the class at a smaller row than its parent, an except or a member of a choice, holds a name. A field that is no smaller row, as NONE, holds none.
+// Whether the class at a smaller row than its parent, an except or a member of a choice, holds a name.
+// A field that is no smaller row, as NONE, holds none.
 fn smaller_holds(schema: &[u32], parent: u32, row: u32, namespace: u32, local: u32) -> bool
     ensures { λ r. ⌜ r ≡ upto (λ row below. memberBy below namespace local (classOf (now (schema .entry)) row)) parent row ⌝ }
 {

@@ -17,7 +17,8 @@ fn definition_count(schema: &[u32], d: u32) -> u32
     0
 }
 
-// The rows of the definitions at the front of rows, in rising order, and how many there are; the words after them may be any.
+// The rows of the definitions at the front of rows, in rising order, and how many there are.
+// What the words after them hold is left open.
 pub fn definitions(schema: &[u32], rows: &mut [u32]) -> u32
     requires { ⌜ (rowsOf (now schema) ≤ maxRows) × (maxRows ≤ length (now rows)) ⌝ }
     ensures { λ n. ⌜ Definitions (now (schema .entry)) (now (rows .exit)) n ⌝ }

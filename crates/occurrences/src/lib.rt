@@ -271,7 +271,8 @@ fn scan_interleaves(schema: &[u32], compared: &mut [u64]) -> Checked
     Checked::Fine
 }
 
-// The first interleave that breaks a restriction on interleave. Two classes are compared once in each order, however often refs to their elements meet.
+// The first interleave that breaks a restriction on interleave.
+// Two classes are compared once in each order, however often refs to their elements meet.
 fn first_interleave(schema: &[u32]) -> Checked
     requires { ⌜ SizeRight (now schema) ⌝ }
     ensures { λ r. ⌜ Finds (InterleaveFault (now (schema .entry))) r ⌝ }

@@ -1,7 +1,7 @@
 -- Code 3: where clause 8 of ISO/IEC 19757-2 has no place for empty or notAllowed (document 01, "The restrictions").
 use Prim.Native.Nat.{ℕ}
 use mathlib.Core.Path.{_≡_}
-use mathlib.Core.Bool.{Bool, true, false, _&&_, _||_}
+use mathlib.Core.Bool.{Bool, false, _&&_, _||_}
 use mathlib.Core.List.{List}
 use lib.Dec.{eqb}
 use Rattle.schema.specs.Kinds as kind

@@ -68,7 +68,8 @@ fn pass_below(schema: &[u32], source: Source, marks: &[u32], below: &mut [u32], 
 }
 
 // Marks the rows below a source.
-// Parents are larger than their children, so that a row is passed when its own mark is final. A last row that lacks fields is passed too.
+// Parents are larger than their children, so that a row is passed when its own mark is final.
+// A last row that lacks fields is passed too.
 pub fn mark_below(schema: &[u32], source: Source, marks: &[u32], below: &mut [u32])
     requires { ⌜ Fits (now schema) (now below) ⌝ }
     ensures { λ _. ⌜ Marks (Under (now (schema .entry)) (IsSource (now (schema .entry)) source (now (marks .entry)))) (now (below .exit)) ⌝ }

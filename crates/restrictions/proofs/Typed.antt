@@ -6,7 +6,7 @@ use mathlib.Core.List.{List}
 use Prim.Native.Nat.{ℕ, zero, suc, _<_}
 use native.Mathlib.Omega.{arith}
 use Rattle.schema.specs.Kinds as kind
-use Rattle.schema.specs.Rows.{rowsOf, kindOf, aOf, bOf, shapeOf, childA, childB, sortOf, isPattern, namesA, namesB}
+use Rattle.schema.specs.Rows.{rowsOf, kindOf, aOf, bOf, shapeOf, childA, childB, sortOf, isPattern}
 use Rattle.schema.specs.Relations.{Child, by-a, by-b}
 use Rattle.schema.proofs.Children.{child-less}
 use Rattle.schema.proofs.Fields.{pattern-a, pattern-b, pattern-or-none, pattern-kind, PatternKind, is-empty, is-notAllowed, is-text, is-data, is-value, is-attribute, is-ref, is-oneOrMore, is-choice, is-group, is-interleave}

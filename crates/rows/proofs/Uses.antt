@@ -1,6 +1,5 @@
 -- Counting the uses of rows.
 use mathlib.Core.Path.{_≡_, refl, sym, _∙_, ap}
-use mathlib.Core.Bool.{Bool, true, false}
 use mathlib.Core.List.{List}
 use Prim.Native.Nat.{ℕ, zero, suc, _+_, _*_, _≤_, _<_}
 use native.Mathlib.Omega.{arith}
@@ -12,16 +11,13 @@ use lib.Seq.{getD-set-same, getD-set-other}
 use borrow.Author.Tests.{eq-eqb, ne-eqb}
 use Rattle.tables.specs.Outputs.{zeros}
 use Rattle.tables.proofs.Fill.{getD-zeros}
+use Rattle.tables.proofs.Numbers.{one-or-none}
 use Rattle.schema.specs.Rows.{childA, childB}
 use Rattle.schema.specs.RowRule.{maxRows, isRow, usesBelow}
 use Rattle.rows.specs.Counts.{Counts, Added}
 
 is-row-low : (r x : ℕ) → isRow r x ≤ 1
-is-row-low r x = go (eqb x r) refl
-  where
-    go : (b : Bool) → eqb x r ≡ b → isRow r x ≤ 1
-    go true e = rw e (omega arith)
-    go false e = rw e (omega arith)
+is-row-low r x = one-or-none (eqb x r) refl
 
 uses-low : (s : List ℕ) (r p : ℕ) → usesBelow s r p ≤ 2 * p
 unfolding usesBelow

@@ -1,6 +1,6 @@
 -- A row as a pattern or a name class, in the terms of ISO/IEC 19757-2, clause 8. Parts are row numbers; a definition is the row of an element.
 use Prim.Native.Nat.{ℕ}
-use mathlib.Core.Bool.{Bool, true, false, cond}
+use mathlib.Core.Bool.{cond}
 use mathlib.Core.List.{List}
 use lib.Dec.{eqb}
 use Rattle.schema.specs.Kinds as kind

@@ -1,4 +1,4 @@
-// Schema rows: what a row of each kind holds, its children, and what a field may hold.
+// Schema rows: what a row of each kind holds, its children, what a field may hold, and the size of a table.
 use tables::Checked;
 ghost use mathlib.Core.Path.{_≡_};
 ghost use Rattle.tables.specs.Answers.{Finds};
@@ -265,7 +265,8 @@ fn mark_if(marks: &mut [u32], wanted: bool, r: u32)
     }
 }
 
-// Marks the child of row p through field a where the first is wanted, and the one through field b where the second is; past the end of the marks nothing is stored.
+// Marks the child of row p through field a where the first is wanted, and the one through field b where the second is.
+// Past the end of the marks nothing is stored.
 pub fn mark_children(schema: &[u32], marks: &mut [u32], p: u32, a: bool, b: bool)
     ensures { λ _. ⌜ now (marks .exit) ≡ childrenMarked (now (schema .entry)) p a b (now (marks .entry)) ⌝ }
 {

@@ -1,11 +1,11 @@
 -- The table of content types as it is filled.
-use mathlib.Core.Path.{_≡_, refl, sym, _∙_, ap}
-use mathlib.Core.Bool.{Bool, true, false, false≢true}
+use mathlib.Core.Path.{_≡_, sym, _∙_, ap}
+use mathlib.Core.Bool.{true, false, false≢true}
 use mathlib.Core.Logic.{_≢_}
 use mathlib.Core.List.{List}
 use Prim.Native.Nat.{ℕ, _+_, _≤_, _<_}
 use native.Mathlib.Omega.{arith}
-use lib.ListN.{length, getD, set, length-set, length-replicate}
+use lib.ListN.{getD, set, length-set, length-replicate}
 use lib.Seq.{getD-set-same, getD-set-other}
 use borrow.Author.Count.{below-more}
 use borrow.Author.Tests.{ne-eqb}
@@ -49,23 +49,25 @@ no-row-type s r w h = record { has = λ e. absurd (false≢true e); only = λ c 
 
 -- no kind of a pattern that has a type, as the rest of a match says it
 abbrev pub Untyped : ℕ → Type 0
-Untyped k = (((((((((Unit {0} × (k ≢ 1)) × (k ≢ 3)) × (k ≢ 4)) × (k ≢ 5)) × (k ≢ 7)) × (k ≢ 8)) × (k ≢ 9)) × (k ≢ 10)) × (k ≢ 11)) × (k ≢ 12)
+Untyped k =
+    (((((((((Unit {0} × (k ≢ kind.empty)) × (k ≢ kind.text)) × (k ≢ kind.«data»)) × (k ≢ kind.value)) × (k ≢ kind.attribute)) × (k ≢ kind.ref)) × (k ≢ kind.oneOrMore))
+    × (k ≢ kind.choice)) × (k ≢ kind.group)) × (k ≢ kind.interleave)
 
 pub type-other : (k b c d : ℕ) → Untyped k → noType ≡ typeBy k b c d
 unfolding typeBy
 type-other k b c d o =
     let p = o .0 .0 .0 .0 .0 in
     rw (
-      ne-eqb k 1 (p .0 .0 .0 .0 .1),
-      ne-eqb k 3 (p .0 .0 .0 .1),
-      ne-eqb k 4 (p .0 .0 .1),
-      ne-eqb k 5 (p .0 .1),
-      ne-eqb k 7 (p .1),
-      ne-eqb k 8 (o .0 .0 .0 .0 .1),
-      ne-eqb k 9 (o .0 .0 .0 .1),
-      ne-eqb k 10 (o .0 .0 .1),
-      ne-eqb k 11 (o .0 .1),
-      ne-eqb k 12 (o .1),
+      ne-eqb k kind.empty (p .0 .0 .0 .0 .1),
+      ne-eqb k kind.text (p .0 .0 .0 .1),
+      ne-eqb k kind.«data» (p .0 .0 .1),
+      ne-eqb k kind.value (p .0 .1),
+      ne-eqb k kind.attribute (p .1),
+      ne-eqb k kind.ref (o .0 .0 .0 .0 .1),
+      ne-eqb k kind.oneOrMore (o .0 .0 .0 .1),
+      ne-eqb k kind.choice (o .0 .0 .1),
+      ne-eqb k kind.group (o .0 .1),
+      ne-eqb k kind.interleave (o .1),
     )
 
 -- a fault is at a row of the table

@@ -1,6 +1,6 @@
 -- The content type of a row from those of its children, and when these do not go together.
 use mathlib.Core.Path.{_≡_, refl, sym, _∙_, ap₂, subst}
-use mathlib.Core.Bool.{Bool, true, false, not, cond, _&&_, _||_, true≢false, false≢true}
+use mathlib.Core.Bool.{Bool, true, false, not, cond, _&&_, _||_, true≢false, false≢true, or-true}
 use mathlib.Core.Logic.{_⊎_, inl, inr, ⊎-elim}
 use mathlib.Core.List.{List}
 use Prim.Native.Nat.{ℕ, max, _<_}
@@ -43,10 +43,6 @@ pair-clash : (k c d : ℕ) → isPair k ≡ true → clashBy k c d ≡ clashes c
 unfolding clashBy
 pair-clash k c d e = ⊎-elim (λ f. rw f) (λ f. rw f) (pair-kind k e)
 
-typed-or : (b : Bool) → _≡_ {A = ℕ} 2 (cond (b || true) 2 3)
-typed-or true = refl
-typed-or false = refl
-
 is-typed : {s : List ℕ} {x t u : ℕ} → TypeIs s x t → HasType s x u → typed t ≡ true
 is-typed i h = lt-ltb _ _ (subst (λ n. n < noType) (i .only _ h) (type-low h))
 
@@ -85,7 +81,7 @@ module _ (s : List ℕ) (r c d : ℕ) (first : TypeIs s (childA s r) c) (second 
   unfolding typeBy
   only t (value-type e) = rw e
   only t (data-type-1 e f) = rw (e, eq-eqb _ _ f)
-  only t (data-type-2 e h) = rw (e, is-typed second h) (typed-or (eqb (bOf s r) kind.none))
+  only t (data-type-2 e h) = rw (e, is-typed second h, or-true (eqb (bOf s r) kind.none))
   only t (text-type e) = rw e
   only t (ref-type e) = rw e
   only t (empty-type e) = rw e

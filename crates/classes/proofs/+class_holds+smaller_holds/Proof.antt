@@ -11,7 +11,7 @@ use Rattle.schema.proofs.field_a.Reads as field-a-reads
 use Rattle.schema.proofs.field_b.Reads as field-b-reads
 use Rattle.schema.proofs.kind.Reads as kind-reads
 use Rattle.classes.specs.Membership.{holds}
-use Rattle.classes.proofs.Holds.{Read, holds-16, holds-17, holds-18, holds-19, holds-other}
+use Rattle.classes.proofs.Holds.{Read, holds-anyName, holds-nsName, holds-name, holds-nameChoice, holds-other}
 use Rattle.classes.proofs.class_holds.Reads as class-holds
 use Rattle.classes.proofs.class_holds.Kinds as class-holds-kinds
 use Rattle.classes.proofs.+class_holds+smaller_holds.Lts-class_holds as class-holds-lts
@@ -78,25 +78,25 @@ module _ (t : ℕ) where
   class-holds-smaller-holds-requires-4 c κs = (omega arith, tt)
 
   class-holds-returns : class-holds-lts.Need-returns class-holds-calls class-holds-at class-holds.Post
-  class-holds-returns c = rw (holds-16 _ (c .before .before .before .before .before .before .args .namespace) (c .before .before .before .before .before .before .args .local) _ (read (c .before .before)) (omega arith) (c .before .match .keys1)) (ap not (c .smaller-holds .ensures))
+  class-holds-returns c = rw (holds-anyName _ (c .before .before .before .before .before .before .args .namespace) (c .before .before .before .before .before .before .args .local) _ (read (c .before .before)) (omega arith) (c .before .match .keys1)) (ap not (c .smaller-holds .ensures))
 
   class-holds-returns-2 : class-holds-lts.Need-returns-2 class-holds-calls class-holds-at class-holds.Post
-  class-holds-returns-2 c = rw (holds-17 _ (c .before .before .before .before .before .before .before .args .namespace) (c .before .before .before .before .before .before .before .args .local) _ (read (c .before .before .before)) (omega arith) (c .before .before .match .keys2), eq-eqb _ _ (c .before .if1 .taken)) (ap not (c .smaller-holds2 .ensures))
+  class-holds-returns-2 c = rw (holds-nsName _ (c .before .before .before .before .before .before .before .args .namespace) (c .before .before .before .before .before .before .before .args .local) _ (read (c .before .before .before)) (omega arith) (c .before .before .match .keys2), eq-eqb _ _ (c .before .if1 .taken)) (ap not (c .smaller-holds2 .ensures))
 
   class-holds-returns-3 : class-holds-lts.Need-returns-3 class-holds-calls class-holds-at class-holds.Post
-  class-holds-returns-3 c = rw (holds-17 _ (c .before .before .before .before .before .before .args .namespace) (c .before .before .before .before .before .before .args .local) _ (read (c .before .before)) (omega arith) (c .before .match .keys2), ne-eqb _ _ (c .if1 .left))
+  class-holds-returns-3 c = rw (holds-nsName _ (c .before .before .before .before .before .before .args .namespace) (c .before .before .before .before .before .before .args .local) _ (read (c .before .before)) (omega arith) (c .before .match .keys2), ne-eqb _ _ (c .if1 .left))
 
   class-holds-returns-4 : class-holds-lts.Need-returns-4 class-holds-calls class-holds-at class-holds.Post
-  class-holds-returns-4 c = rw (holds-18 _ (c .before .before .before .before .before .before .args .namespace) (c .before .before .before .before .before .before .args .local) _ (read (c .before .before)) (c .before .match .keys3), eq-eqb _ _ (c .if2 .taken))
+  class-holds-returns-4 c = rw (holds-name _ (c .before .before .before .before .before .before .args .namespace) (c .before .before .before .before .before .before .args .local) _ (read (c .before .before)) (c .before .match .keys3), eq-eqb _ _ (c .if2 .taken))
 
   class-holds-returns-5 : class-holds-lts.Need-returns-5 class-holds-calls class-holds-at class-holds.Post
-  class-holds-returns-5 c = rw (holds-18 _ (c .before .before .before .before .before .before .args .namespace) (c .before .before .before .before .before .before .args .local) _ (read (c .before .before)) (c .before .match .keys3), ne-eqb _ _ (c .if2 .left))
+  class-holds-returns-5 c = rw (holds-name _ (c .before .before .before .before .before .before .args .namespace) (c .before .before .before .before .before .before .args .local) _ (read (c .before .before)) (c .before .match .keys3), ne-eqb _ _ (c .if2 .left))
 
   class-holds-returns-6 : class-holds-lts.Need-returns-6 class-holds-calls class-holds-at class-holds.Post
-  class-holds-returns-6 c = rw (holds-19 _ (c .before .before .before .before .before .before .before .args .namespace) (c .before .before .before .before .before .before .before .args .local) _ (read (c .before .before .before)) (c .before .before .match .keys4), ← c .before .smaller-holds3 .ensures, c .if3 .taken)
+  class-holds-returns-6 c = rw (holds-nameChoice _ (c .before .before .before .before .before .before .before .args .namespace) (c .before .before .before .before .before .before .before .args .local) _ (read (c .before .before .before)) (c .before .before .match .keys4), ← c .before .smaller-holds3 .ensures, c .if3 .taken)
 
   class-holds-returns-7 : class-holds-lts.Need-returns-7 class-holds-calls class-holds-at class-holds.Post
-  class-holds-returns-7 c = rw (holds-19 _ (c .before .before .before .before .before .before .before .before .args .namespace) (c .before .before .before .before .before .before .before .before .args .local) _ (read (c .before .before .before .before)) (c .before .before .before .match .keys4), ← c .before .before .smaller-holds3 .ensures, c .before .if3 .left) (c .smaller-holds4 .ensures)
+  class-holds-returns-7 c = rw (holds-nameChoice _ (c .before .before .before .before .before .before .before .before .args .namespace) (c .before .before .before .before .before .before .before .before .args .local) _ (read (c .before .before .before .before)) (c .before .before .before .match .keys4), ← c .before .before .smaller-holds3 .ensures, c .before .if3 .left) (c .smaller-holds4 .ensures)
 
   class-holds-returns-8 : class-holds-lts.Need-returns-8 class-holds-calls class-holds-at class-holds.Post
   class-holds-returns-8 c = let rest = c .match .rest in sym (holds-other _ (c .before .before .before .before .before .args .namespace) (c .before .before .before .before .before .args .local) _ (read (c .before)) (rest .0 .0 .0 .1) (rest .0 .0 .1) (rest .0 .1) (rest .1))

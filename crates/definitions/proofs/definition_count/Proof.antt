@@ -4,9 +4,6 @@ use Rattle.definitions.proofs.Collecting.{count-one, count-none}
 use borrow.Author.Needs.{needs}
 use Rattle.definitions.proofs.definition_count.Statement.{statement}
 use Rattle.definitions.proofs.definition_count.Tie as tie
-use Rattle.definitions.proofs.definition_count.Reads as reads
-use Rattle.definitions.proofs.definition_count.Lts as lts
-use Rattle.schema.proofs.kind.Reads as kind-reads
 
 kind-requires : tie.Need-kind-requires
 kind-requires c κs = search needs

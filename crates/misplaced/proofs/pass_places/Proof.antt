@@ -1,5 +1,4 @@
 -- Each child is wanted where p misplaces it.
-use native.Mathlib.Omega.{arith}
 use borrow.Author.Needs.{needs}
 use Rattle.places.proofs.Marks.{adds-those}
 use Rattle.misplaced.proofs.pass_places.Statement.{statement}
