@@ -1,14 +1,14 @@
 -- The round trip of a whole job.
 use mathlib.Core.Path.{_≡_, refl, sym, _∙_, ap, ap₂}
-use mathlib.Core.Bool.{Bool, true, false, cond, not, _&&_, true≢false}
+use mathlib.Core.Bool.{Bool, true, false, not, _&&_, true≢false}
 use mathlib.Core.List.{List, [], _∷_, _++_, append-nil, append-assoc}
 use mathlib.Core.Option.{some}
 use Prim.Native.Nat.{ℕ, zero, suc, _+_, _-_, _*_, _%_, _<_, _≤_}
 use native.Mathlib.Nat.{add-zero, zero-add}
 use native.Mathlib.Omega.{arith}
-use lib.ListN.{length, take, drop, getD, length-drop}
+use lib.ListN.{length, take, drop, length-drop}
 use lib.Seq.{length-take-le, take-add, take-all, take-suc}
-use lib.Dec.{ltb, leb, eqb}
+use lib.Dec.{eqb}
 use borrow.Author.Tests.{le-leb, le-ltb, eq-eqb}
 use Rattle.tables.proofs.Numbers.{not-less, is-same}
 use Rattle.tables.specs.Tables.{StringTable, Tables, tablesOf, stringTable}
@@ -23,8 +23,8 @@ use Rattle.jobs.specs.Ascii.{ascii}
 use Rattle.jobs.specs.Numbers.{decimal, wordsText, hexText}
 use Rattle.jobs.specs.Lines.{lineFeed, linesOf, isEnded}
 use Rattle.jobs.specs.Written.{stringLines, rowLines, jobLines, jobText}
-use Rattle.jobs.specs.Reading.{noTables, Reading, read, line, lines, addString, addRow, addNode, nothingMore, readLines, readJob, maxFile}
-use Rattle.jobs.proofs.Texts.{Lacks, lacks-append, lacks-decimal, lacks-words, lacks-hex, Lined, lines-back, lined-append, lines-ended, after-back, Words, Bytes, bytes-back}
+use Rattle.jobs.specs.Reading.{Reading, read, lines, addString, addRow, addNode, readLines, readJob, maxFile}
+use Rattle.jobs.proofs.Texts.{Lacks, lacks-append, lacks-decimal, lacks-words, lacks-hex, Lined, lines-back, lined-append, lines-ended, Words, Bytes, bytes-back}
 use Rattle.jobs.proofs.RoundTrip.{count-back, bytes-take, bytes-drop, withRow, withNode, rows-back, schema-back, instance-back}
 
 module _ (T : StringTable) (right : StringsRight T) where

@@ -24,7 +24,7 @@ use Rattle.schema.specs.RowRule.{maxRows}
 use Rattle.instance.specs.NodeRule.{maxNodes}
 use Rattle.jobs.specs.Reading.{maxFile}
 use Rattle.jobs.specs.Written.{jobText}
-use Rattle.writer.specs.Promises.{TableFault, too-many-rows, broken-length, TextFault, too-long, too-short, writtenVerdict, WriteJob}
+use Rattle.writer.specs.Promises.{TableFault, too-many-rows, broken-length, TextFault, too-long, too-short, WriteJob}
 use Rattle.writer.specs.Refused.{faultPlace}
 use Rattle.texts.specs.Writing.{Sized, Wrote}
 use Rattle.texts.proofs.Writing.{wrote-length}
