@@ -1,18 +1,16 @@
 -- The round trip of a whole job.
 use mathlib.Core.Path.{_≡_, refl, sym, _∙_, ap, ap₂}
-use mathlib.Core.Logic.{_≢_}
-use mathlib.Core.Bool.{Bool, true, false, cond, not, _&&_, true≢false}
+use mathlib.Core.Bool.{Bool, true, false, not, _&&_, true≢false}
 use mathlib.Core.List.{List, [], _∷_, _++_, append-nil, append-assoc}
 use mathlib.Core.Option.{some}
 use Prim.Native.Nat.{ℕ, zero, suc, _+_, _-_, _*_, _%_, _<_, _≤_}
 use native.Mathlib.Nat.{add-zero, zero-add}
 use native.Mathlib.Omega.{arith}
-use native.Mathlib.Decide.{ℕ-discrete}
-use lib.ListN.{length, take, drop, getD, length-drop}
+use lib.ListN.{length, take, drop, length-drop}
 use lib.Seq.{length-take-le, take-add, take-all, take-suc}
-use lib.Dec.{ltb, leb, eqb}
+use lib.Dec.{eqb}
 use borrow.Author.Tests.{le-leb, le-ltb, eq-eqb}
-use Rattle.tables.proofs.Numbers.{not-less}
+use Rattle.tables.proofs.Numbers.{not-less, is-same}
 use Rattle.tables.specs.Tables.{StringTable, Tables, tablesOf, stringTable}
 use Rattle.strings.specs.Strings.{maxStrings, maxBytes, startOf, endOf, textOf, StringsRight, no-string, too-many-strings, too-many-bytes, at-front, last-end-wrong, bad-end}
 use Rattle.strings.proofs.Table.{ends-of, start-before-end, end-within}
@@ -25,12 +23,9 @@ use Rattle.jobs.specs.Ascii.{ascii}
 use Rattle.jobs.specs.Numbers.{decimal, wordsText, hexText}
 use Rattle.jobs.specs.Lines.{lineFeed, linesOf, isEnded}
 use Rattle.jobs.specs.Written.{stringLines, rowLines, jobLines, jobText}
-use Rattle.jobs.specs.Reading.{noTables, Reading, read, line, lines, addString, addRow, addNode, nothingMore, readLines, readJob, maxFile}
-use Rattle.jobs.proofs.Texts.{Lacks, lacks-append, lacks-decimal, lacks-words, lacks-hex, Lined, lines-back, lined-append, lines-ended, after-back, Words, Bytes, bytes-back}
+use Rattle.jobs.specs.Reading.{Reading, read, lines, addString, addRow, addNode, readLines, readJob, maxFile}
+use Rattle.jobs.proofs.Texts.{Lacks, lacks-append, lacks-decimal, lacks-words, lacks-hex, Lined, lines-back, lined-append, lines-ended, Words, Bytes, bytes-back}
 use Rattle.jobs.proofs.RoundTrip.{count-back, bytes-take, bytes-drop, withRow, withNode, rows-back, schema-back, instance-back}
-
-is : {a b : ℕ} → ¬ (a ≢ b) → a ≡ b
-is {a} {b} h = elim (ℕ-discrete a b) [ yes e ↦ e | no n ↦ absurd (h n) ]
 
 module _ (T : StringTable) (right : StringsRight T) where
   pub few-bytes : length (T .bytes) ≤ maxBytes
@@ -40,7 +35,7 @@ module _ (T : StringTable) (right : StringsRight T) where
   few-strings = not-less (λ f. right 0 (bad-end (at-front (too-many-strings f refl))))
 
   last : (k : ℕ) → suc k ≡ length (T .ends) → endOf (T .ends) k ≡ length (T .bytes)
-  last k e = is (λ n. right k (bad-end (last-end-wrong e n)))
+  last k e = is-same (λ n. right k (bad-end (last-end-wrong e n)))
 
   -- the strings before j
   abbrev before : ℕ → Tables

@@ -1,6 +1,6 @@
 -- What a job file reads as keeps the limits of document 01, in whole rows.
 use Prim.Native.Nat.{ℕ, zero, suc, _+_, _*_, _≤_}
-use mathlib.Core.Path.{_≡_, refl, sym, _∙_, ap, subst}
+use mathlib.Core.Path.{_≡_, refl, _∙_, ap, subst}
 use mathlib.Core.Bool.{Bool, true, false, cond}
 use mathlib.Core.List.{List, [], _∷_, _++_}
 use mathlib.Core.Option.{Option, none, some}
@@ -16,7 +16,7 @@ use Rattle.instance.specs.NodeRule.{maxNodes}
 use Rattle.jobs.specs.Ascii.{ascii}
 use Rattle.jobs.specs.Numbers.{numberOf, wordOf, hexBytes}
 use Rattle.jobs.specs.Lines.{linesOf, isEnded, fieldsOf, after}
-use Rattle.jobs.specs.Reading.{noTables, Reading, read, wrong, maxFile, andThen, lineBy, line, lines, literal, atMost, count, withString, addString, wordsOf, rowOf, addRow, addNode, nothingMore, readLines, readJob}
+use Rattle.jobs.specs.Reading.{noTables, Reading, read, wrong, maxFile, andThen, lineBy, line, lines, literal, count, addString, wordsOf, rowOf, addRow, addNode, nothingMore, readLines, readJob}
 
 -- a reading that is right is not wrong
 pub not-wrong : {n : ℕ} {t : Tables} → wrong n ≡ read t → ⊥

@@ -1,28 +1,20 @@
 -- A job that was written reads back the same.
-use mathlib.Core.Path.{_≡_, refl, sym, _∙_, ap, ap₂}
-use mathlib.Core.Bool.{Bool, true, false, cond}
-use mathlib.Core.List.{List, [], _∷_, _++_, append-nil, append-assoc}
+use mathlib.Core.Path.{_≡_, _∙_, ap, ap₂}
+use mathlib.Core.List.{List, [], _∷_, _++_}
 use mathlib.Core.Option.{Option, some}
-use Prim.Native.Nat.{ℕ, zero, suc, _+_, _-_, _*_, _/_, _%_, _<_, _≤_}
+use Prim.Native.Nat.{ℕ, zero, suc, _+_, _-_, _*_, _≤_}
 use native.Mathlib.Nat.{suc-mul, zero-mul, zero-add}
 use native.Mathlib.Omega.{arith}
-use lib.ListN.{length, take, drop, length-append, length-drop, take-append-drop}
-use lib.Seq.{take-append-le, length-take-le, take-add, take-all, drop-drop}
-use lib.Dec.{ltb, leb}
-use borrow.Author.Tests.{le-leb, le-ltb}
+use lib.ListN.{length, take, drop, length-drop, take-append-drop}
+use lib.Seq.{length-take-le}
+use borrow.Author.Tests.{le-leb}
 use Rattle.tables.specs.Tables.{Tables, tablesOf}
-use Rattle.strings.specs.Strings.{maxStrings, maxBytes, startOf, endOf, textOf}
-use Rattle.schema.specs.RowRule.{maxRows}
-use Rattle.schema.specs.Rows.{rowsOf}
-use Rattle.instance.specs.NodeRule.{maxNodes}
-use Rattle.instance.specs.Nodes.{nodesOf}
 use Rattle.jobs.specs.Ascii.{ascii}
-use Rattle.jobs.specs.Numbers.{largestNumber, decimal, numberOf, wordsText, hexText}
-use Rattle.jobs.specs.Lines.{lineFeed, textOfLines, linesOf, isEnded, after}
-use Rattle.jobs.specs.Written.{stringLines, rowLines, jobLines, jobText}
-use Rattle.jobs.specs.Reading.{noTables, Reading, read, line, lines, count, atMost, rowOf, addString, addRow, addNode, readLines, readJob, maxFile, andThen}
+use Rattle.jobs.specs.Numbers.{largestNumber, decimal, wordsText}
+use Rattle.jobs.specs.Written.{rowLines}
+use Rattle.jobs.specs.Reading.{Reading, lines, count, rowOf, addRow, addNode}
 use Rattle.jobs.proofs.Decimals.{number-back}
-use Rattle.jobs.proofs.Texts.{Lacks, lacks-append, lacks-decimal, lacks-words, lacks-hex, Lined, lines-back, lined-append, lines-ended, after-back, Words, words-back, Bytes, bytes-back}
+use Rattle.jobs.proofs.Texts.{after-back, Words, words-back, Bytes}
 
 -- a count
 pub count-back : (key : List ℕ) (limit n : ℕ) → n ≤ limit → limit ≤ largestNumber → count key limit (key ++ decimal n) ≡ some n

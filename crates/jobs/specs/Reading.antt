@@ -1,10 +1,10 @@
 -- What a job file reads as: the four tables, or its first wrong line (document 01, "The job file", and code 13 of its table of codes).
 use Prim.Native.Nat.{ℕ, zero, suc, _+_}
-use mathlib.Core.Bool.{Bool, true, false, cond, _&&_}
+use mathlib.Core.Bool.{cond}
 use mathlib.Core.List.{List, [], _∷_, _++_}
 use mathlib.Core.Option.{Option, none, some}
 use lib.ListN.{length}
-use lib.Dec.{ltb, leb, eqb}
+use lib.Dec.{ltb, leb}
 use Rattle.tables.specs.Tables.{Tables, tablesOf, stringTable}
 use Rattle.strings.specs.Strings.{maxStrings, maxBytes}
 use Rattle.schema.specs.RowRule.{maxRows}

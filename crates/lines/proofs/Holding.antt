@@ -1,14 +1,13 @@
 -- What is stored from the front of outputs that are zeros is laid in them.
-use mathlib.Core.Path.{_≡_, refl, sym, _∙_, ap, subst⁻¹}
+use mathlib.Core.Path.{_≡_, _∙_, ap}
 use mathlib.Core.List.{List, []}
 use Prim.Native.Nat.{ℕ}
-use lib.ListN.{length}
 use lib.Seq.{sets}
-use Rattle.tables.specs.Outputs.{zeros, laid}
+use Rattle.tables.specs.Outputs.{laid}
 use Rattle.tables.specs.Tables.{Tables}
 use Rattle.tables.proofs.Fill.{laid-none}
 use Rattle.tables.proofs.Stores.{sets-zeros}
-use Rattle.jobs.specs.Reading.{noTables, Reading, read, wrong, readJob}
+use Rattle.jobs.specs.Reading.{noTables, Reading, readJob}
 use Rattle.lines.specs.Promises.{Room, OutputsHold, heldAs, tablesIn}
 use Rattle.lines.specs.Steps.{LinesTo, LinesHeld}
 use Rattle.lines.specs.declared.Held.{Held}

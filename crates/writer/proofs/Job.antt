@@ -1,16 +1,15 @@
 -- The promise of the writer, put together from what its steps found and wrote.
 use mathlib.Core.Path.{_≡_, refl, sym, _∙_, ap, subst⁻¹}
-use mathlib.Core.Logic.{_≢_}
 use mathlib.Core.Bool.{false}
 use mathlib.Core.List.{List}
-use Prim.Native.Nat.{ℕ, zero, suc, _/_, _%_, _≤_, _<_}
+use Prim.Native.Nat.{ℕ, _/_, _%_, _≤_, _<_}
 use native.Mathlib.Nat.{zero-add}
 use native.Mathlib.Omega.{arith}
 use lib.ListN.{length, length-replicate}
 use lib.Seq.{sets}
 use lib.Dec.{eqb}
 use borrow.Author.Tests.{ne-eqb}
-use Rattle.tables.proofs.Numbers.{not-less}
+use Rattle.tables.proofs.Numbers.{not-less, is-same}
 use Rattle.tables.proofs.Stores.{sets-zeros}
 use Rattle.tables.proofs.Fill.{laid-none}
 use Rattle.tables.specs.Outputs.{zeros}
@@ -25,16 +24,12 @@ use Rattle.schema.specs.RowRule.{maxRows}
 use Rattle.instance.specs.NodeRule.{maxNodes}
 use Rattle.jobs.specs.Reading.{maxFile}
 use Rattle.jobs.specs.Written.{jobText}
-use Rattle.writer.specs.Promises.{TableFault, too-many-rows, broken-length, TextFault, too-long, too-short, writtenVerdict, WriteJob}
+use Rattle.writer.specs.Promises.{TableFault, too-many-rows, broken-length, TextFault, too-long, too-short, WriteJob}
 use Rattle.writer.specs.Refused.{faultPlace}
 use Rattle.texts.specs.Writing.{Sized, Wrote}
 use Rattle.texts.proofs.Writing.{wrote-length}
 use Rattle.writer.specs.declared.JobWritten.{JobWritten}
 use Rattle.writer.specs.declared.JobWritten.the-variants.{Written, NotWritten}
-
-pub is-zero : (n : ℕ) → ¬ (n ≢ 0) → n ≡ 0
-is-zero zero h = refl
-is-zero (suc n) h = absurd (h (λ e. omega arith))
 
 -- a table that keeps its limit and is whole has no fault
 pub table-fine : {width limit : ℕ} {table : List ℕ} {place : ℕ} → length table % width ≡ 0 → length table / width ≤ limit → ¬ TableFault width limit table place
@@ -74,9 +69,9 @@ module _ (J : Tables) (room : ℕ) where
       few-bytes = not-less (λ f. strings 0 (bad-end (at-front (too-many-bytes f refl))));
       few-strings = not-less (λ f. strings 0 (bad-end (at-front (too-many-strings f refl))));
       few-rows = not-less (λ f. rows 0 (too-many-rows f refl));
-      whole-rows = is-zero (length (J .schema) % 3) (λ f. rows 0 (broken-length f refl));
+      whole-rows = is-same (λ f. rows 0 (broken-length f refl));
       few-nodes = not-less (λ f. nodes 0 (too-many-rows f refl));
-      whole-nodes = is-zero (length (J .instance) % 5) (λ f. nodes 0 (broken-length f refl));
+      whole-nodes = is-same (λ f. nodes 0 (broken-length f refl));
     }
 
     -- the text was put into an output of zeros, and r is the position after it
