@@ -11,7 +11,7 @@ use Rattle.schema.specs.Rows.{rowsOf, kindOf, aOf, shapeOf, sortOf, isElement, 
 use Rattle.schema.specs.Relations.{Occurs}
 use Rattle.schema.specs.Views.{patternBy, patternOf, oneOrMore, noPattern}
 use Rattle.schema.proofs.Children.{child-less, kind-past}
-use Rattle.schema.proofs.Fields.{and-both}
+use Rattle.tables.proofs.Booleans.{and-both}
 use Rattle.schema.proofs.RowLaws.{right-size, whole-rows}
 use Rattle.schema.proofs.Sorts.{definition-kind, class-a}
 use Rattle.classes.specs.Membership.{inClass}
