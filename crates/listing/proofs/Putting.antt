@@ -9,11 +9,10 @@ use borrow.Author.Tests.{eq-eqb, ne-eqb}
 use lib.ListN.{length, getD, set, length-append, length-set}
 use lib.Seq.{sets, set-out, length-sets}
 use Rattle.tables.proofs.Stores.{sets-append, sets-laid}
-use Rattle.tables.specs.Outputs.{zeros}
+use Rattle.tables.specs.Outputs.{zeros, laid}
 use Rattle.schema.specs.RowRule.{maxRows}
-use Rattle.instance.specs.NodeRule.{maxNodes}
 use Rattle.rules.specs.Listed.{pairWords}
-use Rattle.listing.specs.Listing.{pairIf, rowPairs, markedPairs, PutPairs, ListsPairs}
+use Rattle.listing.specs.Listing.{pairIf, rowPairs, markedPairs, PutPairs, ListsPairs, whole, short}
 use Rattle.listing.specs.declared.Listed.{Listed}
 use Rattle.listing.specs.declared.Listed.the-variants.{Pairs, TooShort}
 
@@ -87,22 +86,22 @@ unfolding markedPairs
 no-rows table definitions = refl
 
 -- the answers of the listing
-module _ (table definitions : List ℕ) (rows room : ℕ) where
-  pub no-list : {list : List ℕ} {r : Listed} → r ≡ TooShort → list ≡ zeros room → (rows ≤ maxNodes → length definitions ≤ maxRows → room < length (markedPairs table definitions rows) * 2) → ListsPairs table definitions rows room list r
-  no-list e z h = record {
-    listed = λ n f. let k : TooShort ≡ Pairs n = sym e ∙ f in let y : _≡_ {A = ℕ} 0 1 = cc in absurd (omega arith);
-    too-short = λ f. h;
-    fits = λ n f. let k : TooShort ≡ Pairs n = sym e ∙ f in let y : _≡_ {A = ℕ} 0 1 = cc in absurd (omega arith);
-    zeroed = λ f. z;
-  }
+module _ {table definitions : List ℕ} {rows room : ℕ} where
+  pub short-list : {list end : List ℕ} {m : ℕ} → room < m * 2 → PutPairs list 0 (markedPairs table definitions rows) end m → {zeroed : List ℕ} → zeroed ≡ zeros room → ListsPairs table definitions rows room zeroed TooShort
+  short-list h p z = let k = p .number in short (omega arith) refl z
 
   pub whole-list : {list : List ℕ} {m : ℕ} → m * 2 ≤ room → PutPairs (zeros room) 0 (markedPairs table definitions rows) list m → ListsPairs table definitions rows room list (Pairs m)
-  whole-list {list} {m} h p =
+  whole-list h p =
       let k = p .number in
       let l = words-length (markedPairs table definitions rows) in
-      record {
-        listed = λ n f. let e : n ≡ m = cc f in (e ∙ p .number ∙ zero-add _, p .holds ∙ sets-laid room (pairWords (markedPairs table definitions rows)) (omega arith));
-        too-short = λ f. let y : _≡_ {A = ℕ} 0 1 = cc f in absurd (omega arith);
-        fits = λ n f. let e : n ≡ m = cc f in omega arith;
-        zeroed = λ f. let y : _≡_ {A = ℕ} 0 1 = cc f in absurd (omega arith);
-      }
+      whole (omega arith) (ap Pairs (p .number ∙ zero-add _)) (p .holds ∙ sets-laid room (pairWords (markedPairs table definitions rows)) (omega arith))
+
+  -- what an answer of the listing says
+  pub listed : {list : List ℕ} {r : Listed} {n : ℕ} → ListsPairs table definitions rows room list r → r ≡ Pairs n
+      → (n ≡ length (markedPairs table definitions rows)) × (n * 2 ≤ room) × (list ≡ laid room (pairWords (markedPairs table definitions rows)))
+  listed {n = n} (whole h e l) f = let k : n ≡ length (markedPairs table definitions rows) = cc (sym f ∙ e) in (k, omega arith, l)
+  listed {n = n} (short h e z) f = let k : TooShort ≡ Pairs n = sym e ∙ f in let y : _≡_ {A = ℕ} 0 1 = cc in absurd (omega arith)
+
+  pub too-short : {list : List ℕ} {r : Listed} → ListsPairs table definitions rows room list r → r ≡ TooShort → (room < length (markedPairs table definitions rows) * 2) × (list ≡ zeros room)
+  too-short (whole h e l) f = let k : TooShort ≡ Pairs (length (markedPairs table definitions rows)) = sym f ∙ e in let y : _≡_ {A = ℕ} 0 1 = cc in absurd (omega arith)
+  too-short (short h e z) f = (h, z)

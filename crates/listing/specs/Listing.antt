@@ -8,7 +8,6 @@ use lib.Dec.{eqb}
 use lib.Seq.{sets}
 use Rattle.tables.specs.Outputs.{zeros, laid}
 use Rattle.schema.specs.RowRule.{maxRows}
-use Rattle.instance.specs.NodeRule.{maxNodes}
 use Rattle.rules.specs.Listed.{pairWords}
 use Rattle.listing.specs.declared.Listed.{Listed}
 use Rattle.listing.specs.declared.Listed.the-variants.{Pairs, TooShort}
@@ -36,9 +35,8 @@ pub record PutPairs (before : List ℕ) (n : ℕ) (pairs : List (ℕ × ℕ)) (a
   pub holds : after ≡ sets before (n * 2) (pairWords pairs)
   pub number : m ≡ n + length pairs
 
--- the answer and the list of so many words, for at most 1,024 rows and 512 definitions
-pub record ListsPairs (table definitions : List ℕ) (rows room : ℕ) (list : List ℕ) (r : Listed) : Type 0 where
-  pub listed : (n : ℕ) → r ≡ Pairs n → (n ≡ length (markedPairs table definitions rows)) × (list ≡ laid room (pairWords (markedPairs table definitions rows)))
-  pub too-short : r ≡ TooShort → rows ≤ maxNodes → length definitions ≤ maxRows → room < length (markedPairs table definitions rows) * 2
-  pub fits : (n : ℕ) → r ≡ Pairs n → n * 2 ≤ room
-  pub zeroed : r ≡ TooShort → list ≡ zeros room
+-- the answer r and all of the list, which has so many words: the words of the marked pairs and zeros after them, or zeros where it has too few
+pub data ListsPairs (table definitions : List ℕ) (rows room : ℕ) (list : List ℕ) (r : Listed) : Type 0 where
+  whole : length (markedPairs table definitions rows) * 2 ≤ room → r ≡ Pairs (length (markedPairs table definitions rows))
+      → list ≡ laid room (pairWords (markedPairs table definitions rows)) → ListsPairs table definitions rows room list r
+  short : room < length (markedPairs table definitions rows) * 2 → r ≡ TooShort → list ≡ zeros room → ListsPairs table definitions rows room list r
