@@ -105,7 +105,7 @@ module _ {t : List ℕ} {e : ℕ} {items : List ℕ} {n texts elements : ℕ} (c
         go (is-element i b j) = rw (b, i, j)
 
     -- the items that pass a test
-    pub run-contents : (P : Item → Bool) (w : ℕ) → ((k : ℕ) → bit w k ≡ (ltb k n && P (itemAt T items texts k))) → run (itemAt T items texts) (bit w) 0 n ≡ kept P (lookups bytes ends s t .children e)
+    pub run-contents : (P : Item → Bool) (w : ℕ) → ((k : ℕ) → bit w k ≡ (ltb k n && P (itemAt T items texts k))) → run (itemAt T items texts) (bit w) 0 n ≡ kept P (lookups (tablesOf T s t) .children e)
     run-contents P w f =
         run-members P (itemOf (tablesOf T s t) 0) (map (itemOf (tablesOf T s t)) (childrenOf t e)) (itemAt T items texts) (bit w) n (omega (arith, size)) at tested past
       where
