@@ -62,6 +62,10 @@ CALLS = {
 }
 called = set()
 
+# Names of the library, which no definition and no parameter gives another meaning.
+OPERATORS = "_≡_ _<_ _≤_ _≢_ _++_ _&&_ _||_"
+LIBRARY = set(f"{OPERATORS} length take drop getD set replicate not cond map true false List Bool ℕ".split())
+
 # A kind of a schema row by its number: in an arm of a `match`, or in a comparison.
 KIND = r"(?:schema::kind\([^{}]*?\)|kind)"
 KIND_MATCH = re.compile(r"^( *)[^\n]*\bmatch %s \{$(.*?)^\1\}" % KIND, re.M | re.S)
@@ -88,6 +92,8 @@ for path in sorted(glob.glob("crates/*/src/*.rt")):
         place = f"{crate}::{name}"
         hold("ensures" in contract, f"{place} has an ensures")
         hold(body.count("\n") <= 40, f"{place} has at most 40 lines")
+        parameters = set(re.findall(r"(\w+): ", re.split("requires|ensures", contract)[0]))
+        hold(not parameters & LIBRARY, f"{place} gives no name of the library another meaning: {parameters & LIBRARY}")
         if place in CALLS or "extern" in m.group(2):
             called.add(place)
             hold("requires" not in contract, f"{place} is called by users and has no requires")
@@ -102,8 +108,6 @@ for path in sorted(glob.glob("crates/*/src/*.rt")):
 for place in sorted(CALLS):
     hold(place in called, f"{place} is there")
 
-OPERATORS = "_≡_ _<_ _≤_ _≢_ _++_ _&&_ _||_"
-LIBRARY = set(f"{OPERATORS} length take drop getD set replicate not cond map true false List Bool ℕ".split())
 CONSTRUCTORS = {"true", "false"}
 # What is defined, with constructors and fields; what is bound before a `:`, after λ or `let`, and by a clause.
 DEFINED = re.compile(r"^ *(?:unfoldable )?(?:abbrev )?(?:pub )?(?:(?:record|data) (\S+)|(\S+) :(?= |$))", re.M)
