@@ -24,7 +24,7 @@ use Rattle.relaxng.specs.Promises.{SchemaRefusal}
 use Rattle.rules.specs.Job.{lookups, Pair, Valid}
 use Rattle.rules.specs.Listed.{Precedes, Rising, rising-none, rising-one, rising-more, Lists}
 use Rattle.rules.specs.Rules.{Proved, NotMatchBy}
-use Rattle.rules.proofs.Booleans.{or-either, and-left, and-right}
+use Rattle.tables.proofs.Booleans.{or-either, and-left, and-right}
 use Rattle.rules.proofs.Inversion.{against}
 use Rattle.cases.specs.Meaning.{Expected, matches, least, refused, Row, IsValid, NotRefused, Matching, Says, Holds, AllHold, none-left, holds}
 use Rattle.cases.proofs.Tests.{everyBelow, every-below, no-of}

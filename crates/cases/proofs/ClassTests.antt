@@ -14,7 +14,7 @@ use Rattle.classes.specs.Membership.{inClass}
 use Rattle.classes.specs.Least.{Common, Before, Least}
 use Rattle.classes.specs.declared.Found.the-variants.{Name}
 use Rattle.classes.proofs.SmallNames.{small-name}
-use Rattle.rules.proofs.Booleans.{or-either, and-left, and-right, and-both}
+use Rattle.tables.proofs.Booleans.{or-either, and-left, and-right, both-and}
 use Rattle.cases.proofs.Tests.{everyBelow, every-below, someBelow, some-below, below-some, no-of}
 
 -- the numbers of small names are below this
@@ -43,7 +43,7 @@ module _ (strings : ℕ) (s : List ℕ) (c d : ℕ) where
       let a = n .low-namespace in
       let b = n .low-local in
       some-below (λ u. someBelow (bothHold u) (bound strings)) (bound strings) (n .namespace) (omega arith)
-      (some-below (bothHold (n .namespace)) (bound strings) (n .local) (omega arith) (and-both (n .common .first) (n .common .second)))
+      (some-below (bothHold (n .namespace)) (bound strings) (n .local) (omega arith) (both-and (n .common .first) (n .common .second)))
 
   -- the name u, l is common, and no small one that is comes before it
   module _ (u l : ℕ) where
@@ -92,6 +92,6 @@ module _ (strings : ℕ) (s : List ℕ) (c d : ℕ) where
             let x : ℕ = n .namespace in
             let y : ℕ = n .local in
             later v k x y (n .most-namespace) (n .most-local) (elim (or-either (not (bothHold x y)) (notBefore x y) (tested x y (omega arith) (omega arith))) [
-              | inl e ↦ absurd (no-of e (and-both (n .common .first) (n .common .second)))
+              | inl e ↦ absurd (no-of e (both-and (n .common .first) (n .common .second)))
               | inr e ↦ not-before x y e
             ])

@@ -10,7 +10,7 @@ use borrow.Author.Tests.{eqb-true, eqb-false, eq-eqb, lt-ltb, ltb-true}
 use Rattle.instance.specs.Nodes.{element, attribute, text, none, nodesOf, kindOf, parentOf, aOf, bOf, cOf, isChild, isAttribute}
 use Rattle.instance.specs.NodeRule.{maxNodes, fieldsRight, nearest, Up, itself, above, ParentRight, SizeFault, no-node, too-many-nodes, broken-length, WrongNode, bad-fields, bad-parent, late-attribute, same-attribute, text-after-text, bad-size, bad-node, NodesRight}
 use Rattle.instance.specs.Width.{maxWidth, howMany, WidthFault, many-attributes, many-children}
-use Rattle.rules.proofs.Booleans.{and-left, and-right, and-both}
+use Rattle.tables.proofs.Booleans.{and-left, and-right, both-and}
 use Rattle.cases.proofs.Tests.{everyBelow, every-below, below-every, no-of}
 
 module _ (strings : ℕ) (t : List ℕ) where
@@ -105,11 +105,11 @@ module _ (strings : ℕ) (t : List ℕ) where
       node-right : ¬ WrongNode strings t r
       node-right (bad-fields e) = true≢false (sym (and-left (fieldsTest r) (placeTest r) (node r l)) ∙ e)
       node-right (bad-parent f) = f (parent-test r (and-left (parentTest r) (everyBelow (earlierTest r) r) place))
-      node-right (late-attribute q h k c) = no-of (and-left (not (lateTest r q)) (not (twinTest r q) && not (textsTest r q)) (earlier q h)) (and-both (eq-eqb _ _ k) c)
+      node-right (late-attribute q h k c) = no-of (and-left (not (lateTest r q)) (not (twinTest r q) && not (textsTest r q)) (earlier q h)) (both-and (eq-eqb _ _ k) c)
       node-right (same-attribute q h k c e) =
-          no-of (and-left (not (twinTest r q)) (not (textsTest r q)) (no-pair q h)) (and-both (and-both (eq-eqb _ _ k) c) (and-both (eq-eqb _ _ (e .0)) (eq-eqb _ _ (e .1))))
+          no-of (and-left (not (twinTest r q)) (not (textsTest r q)) (no-pair q h)) (both-and (both-and (eq-eqb _ _ k) c) (both-and (eq-eqb _ _ (e .0)) (eq-eqb _ _ (e .1))))
       node-right (text-after-text q h k j e f) =
-          no-of (and-right (not (twinTest r q)) (not (textsTest r q)) (no-pair q h)) (and-both (and-both (eq-eqb _ _ k) (eq-eqb _ _ j)) (and-both (eq-eqb _ _ e) (below-every (λ x. not (ltb q x && isChild t (parentOf t r) x)) r between)))
+          no-of (and-right (not (twinTest r q)) (not (textsTest r q)) (no-pair q h)) (both-and (both-and (eq-eqb _ _ k) (eq-eqb _ _ j)) (both-and (eq-eqb _ _ e) (below-every (λ x. not (ltb q x && isChild t (parentOf t r) x)) r between)))
         where
           between : (x : ℕ) → x < r → not (ltb q x && isChild t (parentOf t r) x) ≡ true
           between x i = go (ltb q x) refl

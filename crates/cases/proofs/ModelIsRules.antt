@@ -13,21 +13,18 @@ use Rattle.schema.specs.Views as pattern
 use Rattle.relations.specs.Relations.{Plus, Then}
 use Rattle.rules.specs.Items.{Item, element, string, Attributes, none, only, Lookups}
 use Rattle.rules.specs.Rules.{Match, WeakMatch, NotMatchBy}
-use Rattle.rules.proofs.Booleans.{and-left, and-right, _∩_, _∖_}
+use Rattle.tables.proofs.Booleans.{and-left, and-right}
+use Rattle.rules.proofs.Booleans.{_∩_, _∖_}
 use Rattle.rules.proofs.Groups.{Tells, span-group, span-interleave}
-use Rattle.rules.specs.Spans.{Paired}
+use Rattle.rules.specs.Spans.{Paired, CleanAt, Distinct, run, Span}
 use Rattle.rules.proofs.Inversion.{One, AttributeMatch}
-use Rattle.rules.specs.Spans.{CleanAt}
 use Rattle.rules.proofs.Occurrences.{clean-part}
 use Rattle.rules.proofs.OneElement.{strings-clean, weak-string}
 use Rattle.rules.proofs.Positions.{among-run}
 use Rattle.rules.specs.Reach.{Part, operand, of-attribute, of-except, repeated, choice-first, choice-second, group-first, group-second, interleave-first, interleave-second, Reaches, namesAttribute, takes}
-use Rattle.rules.specs.Spans.{Distinct}
 use Rattle.rules.proofs.Repeats.{distinct-part, span-oneOrMore, span-oneOrMore-attributes}
 use Rattle.rules.specs.Restricted.{Restricted}
-use Rattle.rules.specs.Spans.{run}
 use Rattle.rules.proofs.Sequences.{hasElement, first}
-use Rattle.rules.specs.Spans.{Span}
 use Rattle.rules.proofs.Spans.{ItemsOnly, span-whole, span-nowhere, span-notAllowed, span-noPattern, span-empty, span-text, span-value, span-dataAll, span-dataExcept, OnePaired, span-ref, span-attribute, span-choice}
 use Rattle.rules.proofs.Strata.{not-match}
 use Rattle.cases.proofs.Tests.{someBelow, some-below, below-some}

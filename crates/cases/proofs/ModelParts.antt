@@ -8,14 +8,15 @@ use native.Mathlib.Omega.{arith}
 use lib.Dec.{eqb}
 use borrow.Author.Tests.{eqb-true, eq-eqb, not-true}
 use Rattle.rules.specs.Items.{Item, element, string, Attributes, none, only}
-use Rattle.rules.proofs.Booleans.{or-either, or-left, or-right, and-left, and-right, and-both, no-member, sole-member, is-false}
+use Rattle.tables.proofs.Booleans.{or-either, or-left, or-right, and-left, and-right, both-and, is-false}
+use Rattle.rules.proofs.Booleans.{no-member, sole-member}
 use Rattle.rules.proofs.Inversion.{One}
 use Rattle.cases.proofs.Tests.{everyBelow, every-below, below-every, someBelow, some-below, below-some}
 use Rattle.cases.proofs.Model.{noItem, oneItem, onString, onElement}
 
 -- tests joined decide what they decide, joined
 pub both-decide : (a b : Bool) {P Q : Type 0} → (a ≡ true) ↔ P → (b ≡ true) ↔ Q → ((a && b) ≡ true) ↔ (P × Q)
-both-decide a b f g = (λ e. (f .0 (and-left a b e), g .0 (and-right a b e)), λ x. and-both (f .1 (x .0)) (g .1 (x .1)))
+both-decide a b f g = (λ e. (f .0 (and-left a b e), g .0 (and-right a b e)), λ x. both-and (f .1 (x .0)) (g .1 (x .1)))
 
 pub either-decides : (a b : Bool) {P Q : Type 0} → (a ≡ true) ↔ P → (b ≡ true) ↔ Q → ((a || b) ≡ true) ↔ (P ⊎ Q)
 either-decides a b {P} {Q} f g = (λ e. elim (or-either a b e) [ inl x ↦ inl (f .0 x) | inr x ↦ inr (g .0 x) ], from)

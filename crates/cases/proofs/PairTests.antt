@@ -23,15 +23,13 @@ use Rattle.restrictions.specs.Schema.{SchemaPasses}
 use Rattle.rules.specs.Items.{Item, element, string, Attributes, none, Lookups}
 use Rattle.rules.specs.Rules.{OkAsChildren, Match, WeakMatch, NotMatchBy}
 use Rattle.rules.specs.Job.{datatypeEqual, lookups, startRow, Valid}
-use Rattle.rules.proofs.Booleans.{and-left, and-right, and-both}
+use Rattle.tables.proofs.Booleans.{and-left, and-right, both-and}
 use Rattle.rules.proofs.Children.{children-ok, child-element}
-use Rattle.rules.specs.Spans.{Paired}
+use Rattle.rules.specs.Spans.{Paired, Distinct, run}
 use Rattle.rules.proofs.OneElement.{no-element, stripped-clean, weak-empty, weak-string, weak-span}
 use Rattle.rules.proofs.Passing.{restricted}
 use Rattle.rules.proofs.Paths.{start-child}
-use Rattle.rules.specs.Spans.{Distinct}
 use Rattle.rules.specs.Restricted.{Restricted}
-use Rattle.rules.specs.Spans.{run}
 use Rattle.rules.proofs.Runs.{run-list}
 use Rattle.rules.proofs.Sequences.{hasElement}
 use Rattle.rules.proofs.Spans.{span-whole}
@@ -175,7 +173,7 @@ module _ (bytes ends s t : List ℕ) where
               λ i. record { defined = a; ordered = children-ok strings nodes s e; named = and-right (L .isDefinition d) (L .inClass (L .nameClass d) e) f; content = w .0 i },
               λ q. w .1 (q .content),
             )
-        go false f known = (λ i. absurd (false≢true i), λ q. absurd (true≢false (sym (and-both (q .defined) (q .named)) ∙ f)))
+        go false f known = (λ i. absurd (false≢true i), λ q. absurd (true≢false (sym (both-and (q .defined) (q .named)) ∙ f)))
 
     pub valid-decided : 0 < nodesOf t → (validTest ≡ true) ↔ Valid bytes ends s t
     unfolding validTest run

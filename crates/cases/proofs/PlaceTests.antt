@@ -15,7 +15,7 @@ use Rattle.schema.proofs.RowLaws.{in-table, right-size}
 use Rattle.places.specs.Places.{holdsWhole, emptyFits, PlaceFault, notAllowed-inside, empty-inside}
 use Rattle.places.specs.Names.{NameFault, anyName-in-anyName, anyName-in-nsName, nsName-in-nsName}
 use Rattle.places.specs.Paths.{isPair, notInAttribute, notInExcept, notInStart, PathFault, in-attribute, in-repeated-pair, in-except, in-start}
-use Rattle.rules.proofs.Booleans.{or-left, or-right, and-left, and-right, and-both}
+use Rattle.tables.proofs.Booleans.{or-left, or-right, and-left, and-right, both-and}
 use Rattle.cases.proofs.Tests.{everyBelow, every-below, no-of}
 use Rattle.cases.proofs.DescentTests.{childTest, child-test, belowTest, below-test}
 
@@ -106,8 +106,8 @@ module _ (s : List ℕ) where
         none p c h = no-of (every-below (λ p. not (childTest s (misplaced p) p)) (rowsOf s) pass p (parent-row c)) (child-test s (misplaced p) c h)
 
         go : ¬ PlaceFault s r
-        go (notAllowed-inside p k c h) = none p c (or-left (eqb (kindOf s r) kind.empty && not (emptyFits s p r)) (and-both (eq-eqb _ _ k) (ap not h)))
-        go (empty-inside p k c h) = none p c (or-right (eqb (kindOf s r) kind.notAllowed && not (holdsWhole (kindOf s p))) (and-both (eq-eqb _ _ k) (ap not h)))
+        go (notAllowed-inside p k c h) = none p c (or-left (eqb (kindOf s r) kind.empty && not (emptyFits s p r)) (both-and (eq-eqb _ _ k) (ap not h)))
+        go (empty-inside p k c h) = none p c (or-right (eqb (kindOf s r) kind.notAllowed && not (holdsWhole (kindOf s p))) (both-and (eq-eqb _ _ k) (ap not h)))
 
     pub names-right : namesTest ≡ true → (r : ℕ) → ¬ NameFault s r
     unfolding namesTest
@@ -135,4 +135,4 @@ module _ (s : List ℕ) where
         go (in-repeated-pair p q k h b i c) =
             let l = above-row b in
             none-below repeatedPair (and-right (noneBelow s prohibited) (noneBelow s repeatedPair) pass) c
-            (and-both (eq-eqb _ _ i) (and-both h (below-test s (λ r. eqb (kindOf s r) kind.attribute) (rowsOf s) (omega arith) b (eq-eqb _ _ k))))
+            (both-and (eq-eqb _ _ i) (both-and h (below-test s (λ r. eqb (kindOf s r) kind.attribute) (rowsOf s) (omega arith) b (eq-eqb _ _ k))))

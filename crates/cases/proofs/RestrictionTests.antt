@@ -16,7 +16,7 @@ use Rattle.classes.specs.Least.{Common}
 use Rattle.places.specs.Paths.{isPair}
 use Rattle.occurrences.specs.Attributes.{isWildcard, Infinite, is-wildcard, has-wildcard, AttributeFault, duplicate, not-repeated}
 use Rattle.occurrences.specs.Interleaves.{classReferred, InterleaveFault, same-element, text-twice}
-use Rattle.rules.proofs.Booleans.{or-either, or-left, or-right, and-left, and-right, and-both}
+use Rattle.tables.proofs.Booleans.{or-either, or-left, or-right, and-left, and-right, both-and}
 use Rattle.cases.proofs.Tests.{someBelow, below-some, no-of, guarded, unguarded}
 use Rattle.cases.proofs.DescentTests.{insideTest, occurs-test, test-occurs, belowTest, below-test, test-below}
 use Rattle.cases.proofs.PlaceTests.{above-row}
@@ -150,4 +150,4 @@ module _ (strings : ℕ) (s : List ℕ) where
         no-of pass (guarded (eqb (kindOf s r) kind.interleave) (eq-eqb _ _ e) (or-left (textsTest r) (shared-test kind.ref (classReferred s) r x y u l (λ z. omega arith) o k p j m)))
     interleave-right r pass (text-twice x y e o k p j) =
         no-of pass (guarded (eqb (kindOf s r) kind.interleave) (eq-eqb _ _ e) (or-right (sharedTest kind.ref (classReferred s) r)
-        (and-both (some-of kind.text (λ x. true) (λ z. omega arith) o k refl) (some-of kind.text (λ x. true) (λ z. omega arith) p j refl))))
+        (both-and (some-of kind.text (λ x. true) (λ z. omega arith) o k refl) (some-of kind.text (λ x. true) (λ z. omega arith) p j refl))))

@@ -23,7 +23,7 @@ use Rattle.occurrences.specs.Interleaves.{InterleaveFault}
 use Rattle.sequences.proofs.TypeTables.{sequence-row}
 use Rattle.occurrences.proofs.Clashes.{attribute-row, interleave-row}
 use Rattle.relaxng.specs.Promises.{SchemaRefusal}
-use Rattle.rules.proofs.Booleans.{and-left, and-right}
+use Rattle.tables.proofs.Booleans.{and-left, and-right}
 use Rattle.cases.proofs.Tests.{everyBelow, every-below}
 use Rattle.cases.proofs.StringTests.{stringsTest, strings-right}
 use Rattle.cases.proofs.PlaceTests.{rowsTest, rows-right, placesTest, places-right, namesTest, names-right, pathsTest, paths-right}

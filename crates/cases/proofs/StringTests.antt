@@ -9,7 +9,7 @@ use lib.ListN.{length}
 use borrow.Author.Tests.{eqb-true, eq-eqb, lt-ltb, ltb-true}
 use Rattle.strings.specs.Strings.{maxStrings, maxBytes, startOf, endOf, textOf, FrontFault, EndFault, StringsRight, no-string, too-many-strings, too-many-bytes, first-not-empty, at-front, end-falls, last-end-wrong, bad-end, repeated}
 use mathlib.Core.Logic.{inl, inr}
-use Rattle.rules.proofs.Booleans.{or-either, and-left, and-right, and-both}
+use Rattle.tables.proofs.Booleans.{or-either, and-left, and-right, both-and}
 use Rattle.cases.proofs.Tests.{everyBelow, every-below, no-of}
 
 -- equality of texts
@@ -24,7 +24,7 @@ same-text s t e = rw (← e) (itself s)
   where
     itself : (s : List ℕ) → sameText s s ≡ true
     itself [] = refl
-    itself (x ∷ s) = and-both (eq-eqb x x refl) (itself s)
+    itself (x ∷ s) = both-and (eq-eqb x x refl) (itself s)
 
 pub text-same : (s t : List ℕ) → sameText s t ≡ true → s ≡ t
 text-same [] [] e = refl

@@ -15,7 +15,7 @@ use Rattle.instance.specs.Width.{maxWidth, howMany, WidthFault, many-attributes
 use Rattle.instance.proofs.Order.{attribute-kind}
 use Rattle.instance.proofs.Elements.{attribute-later, attributes-first, attributes-differ}
 use Rattle.sets.specs.Collecting.{Collects}
-use Rattle.rules.proofs.Booleans.{is-false, and-right}
+use Rattle.tables.proofs.Booleans.{is-false, and-right}
 use Rattle.marks.specs.Marks.{attributeRow, attributesIn}
 use Rattle.contents.specs.Contents.{Counted}
 

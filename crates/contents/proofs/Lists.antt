@@ -14,7 +14,7 @@ use Rattle.instance.specs.Nodes.{nodesOf, parentOf, isChild, isAttribute}
 use Rattle.instance.specs.Elements.{rowsWhere, childrenOf}
 use Rattle.instance.specs.Width.{maxWidth}
 use Rattle.instance.proofs.Elements.{child-later}
-use Rattle.rules.proofs.Booleans.{is-false}
+use Rattle.tables.proofs.Booleans.{is-false}
 use Rattle.marks.specs.Marks.{attributeRow}
 use Rattle.contents.specs.Contents.{Counted, RightRow, Begins, itemWord, Itemized}
 use Rattle.contents.proofs.Subtree.{children-to}

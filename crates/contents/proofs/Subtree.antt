@@ -11,7 +11,7 @@ use Rattle.instance.specs.Elements.{rowsWhere}
 use Rattle.instance.proofs.Ancestors.{up-before, up-parent}
 use Rattle.instance.proofs.Elements.{rooted, few, parent-up}
 use Rattle.instance.proofs.Order.{child-parent}
-use Rattle.rules.proofs.Booleans.{is-false}
+use Rattle.tables.proofs.Booleans.{is-false}
 
 up-trans : {t : List ℕ} {p q e : ℕ} → Up t p q → Up t q e → Up t p e
 up-trans u itself = u

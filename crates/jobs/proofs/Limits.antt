@@ -9,13 +9,14 @@ use native.Mathlib.Omega.{arith}
 use lib.Dec.{ltb, leb}
 use lib.ListN.{length, length-append}
 use borrow.Author.Tests.{leb-true}
+use Rattle.tables.specs.Tables.{Tables, tablesOf, stringTable}
 use Rattle.strings.specs.Strings.{maxStrings, maxBytes}
 use Rattle.schema.specs.RowRule.{maxRows}
 use Rattle.instance.specs.NodeRule.{maxNodes}
 use Rattle.jobs.specs.Ascii.{ascii}
 use Rattle.jobs.specs.Numbers.{numberOf, wordOf, hexBytes}
 use Rattle.jobs.specs.Lines.{linesOf, isEnded, fieldsOf, after}
-use Rattle.jobs.specs.Reading.{Tables, noTables, Reading, read, wrong, maxFile, andThen, lineBy, line, lines, literal, atMost, count, withString, addString, wordsOf, rowOf, addRow, addNode, nothingMore, readLines, readJob}
+use Rattle.jobs.specs.Reading.{noTables, Reading, read, wrong, maxFile, andThen, lineBy, line, lines, literal, atMost, count, withString, addString, wordsOf, rowOf, addRow, addNode, nothingMore, readLines, readJob}
 
 -- a reading that is right is not wrong
 pub not-wrong : {n : ℕ} {t : Tables} → wrong n ≡ read t → ⊥
@@ -78,13 +79,13 @@ words-length (suc n) (f ∷ fields) {ws} e =
     let z : ws ≡ r .0 ∷ s .0 = cc (s .2) in
     ap length z ∙ let i = words-length n fields (s .1) in omega arith
 
-row-length : (key : List ℕ) (width : ℕ) (l : List ℕ) {row : List ℕ} → rowOf key width l ≡ some row → length row ≡ width
+pub row-length : (key : List ℕ) (width : ℕ) (l : List ℕ) {row : List ℕ} → rowOf key width l ≡ some row → length row ≡ width
 row-length key width l e = let r = then-some (after key l) e in words-length width (fieldsOf (r .0)) (r .2)
 
 -- how long the tables are
 pub record Lengths (strings rows nodes : ℕ) (t : Tables) : Type 0 where
-  pub few-bytes : length (t .bytes) ≤ maxBytes
-  pub of-ends : length (t .ends) ≡ strings
+  pub few-bytes : length (t .strings .bytes) ≤ maxBytes
+  pub of-ends : length (t .strings .ends) ≡ strings
   pub of-schema : length (t .schema) ≡ 3 * rows
   pub of-instance : length (t .instance) ≡ 5 * nodes
 
@@ -92,15 +93,15 @@ string-step : (k : ℕ) (u v : Tables) (l : List ℕ) → Lengths k 0 0 u → ad
 string-step k u v l p e =
     let r = then-some (after (ascii "s=") l) e in
     let s = then-some (hexBytes (r .0)) (r .2) in
-    go (s .0) (leb (length (u .bytes) + length (s .0)) maxBytes) refl (s .2)
+    go (s .0) (leb (length (u .strings .bytes) + length (s .0)) maxBytes) refl (s .2)
   where
-    go : (text : List ℕ) (b : Bool) → leb (length (u .bytes) + length text) maxBytes ≡ b
-        → cond b (some (record { bytes = u .bytes ++ text; ends = u .ends ++ (length (u .bytes) + length text) ∷ []; schema = u .schema; instance = u .instance })) none ≡ some v → Lengths (suc k) 0 0 v
+    go : (text : List ℕ) (b : Bool) → leb (length (u .strings .bytes) + length text) maxBytes ≡ b
+        → cond b (some (tablesOf (stringTable (u .strings .bytes ++ text) (u .strings .ends ++ (length (u .strings .bytes) + length text) ∷ [])) (u .schema) (u .instance))) none ≡ some v → Lengths (suc k) 0 0 v
     go text true f g =
-        let z : record { bytes = u .bytes ++ text; ends = u .ends ++ (length (u .bytes) + length text) ∷ []; schema = u .schema; instance = u .instance } ≡ v = cc g in
+        let z : tablesOf (stringTable (u .strings .bytes ++ text) (u .strings .ends ++ (length (u .strings .bytes) + length text) ∷ [])) (u .schema) (u .instance) ≡ v = cc g in
         subst (Lengths (suc k) 0 0) z (record {
-          few-bytes = let h = leb-true (length (u .bytes) + length text) maxBytes f in let i = length-append (u .bytes) text in omega arith;
-          of-ends = let h = p .of-ends in let i = length-append (u .ends) ((length (u .bytes) + length text) ∷ []) in omega arith;
+          few-bytes = let h = leb-true (length (u .strings .bytes) + length text) maxBytes f in let i = length-append (u .strings .bytes) text in omega arith;
+          of-ends = let h = p .of-ends in let i = length-append (u .strings .ends) ((length (u .strings .bytes) + length text) ∷ []) in omega arith;
           of-schema = p .of-schema;
           of-instance = p .of-instance;
         })
@@ -109,7 +110,7 @@ string-step k u v l p e =
 row-step : (strings : ℕ) (k : ℕ) (u v : Tables) (l : List ℕ) → Lengths strings k 0 u → addRow u l ≡ some v → Lengths strings (suc k) 0 v
 row-step strings k u v l p e =
     let r = then-some (rowOf (ascii "row=") 3 l) e in
-    let z : record { bytes = u .bytes; ends = u .ends; schema = u .schema ++ r .0; instance = u .instance } ≡ v = cc (r .2) in
+    let z : tablesOf (u .strings) (u .schema ++ r .0) (u .instance) ≡ v = cc (r .2) in
     subst (Lengths strings (suc k) 0) z (record {
       few-bytes = p .few-bytes;
       of-ends = p .of-ends;
@@ -120,7 +121,7 @@ row-step strings k u v l p e =
 node-step : (strings rows : ℕ) (k : ℕ) (u v : Tables) (l : List ℕ) → Lengths strings rows k u → addNode u l ≡ some v → Lengths strings rows (suc k) v
 node-step strings rows k u v l p e =
     let r = then-some (rowOf (ascii "node=") 5 l) e in
-    let z : record { bytes = u .bytes; ends = u .ends; schema = u .schema; instance = u .instance ++ r .0 } ≡ v = cc (r .2) in
+    let z : tablesOf (u .strings) (u .schema) (u .instance ++ r .0) ≡ v = cc (r .2) in
     subst (Lengths strings rows (suc k)) z (record {
       few-bytes = p .few-bytes;
       of-ends = p .of-ends;

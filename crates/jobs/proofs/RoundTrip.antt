@@ -10,6 +10,7 @@ use lib.ListN.{length, take, drop, length-append, length-drop, take-append-drop}
 use lib.Seq.{take-append-le, length-take-le, take-add, take-all, drop-drop}
 use lib.Dec.{ltb, leb}
 use borrow.Author.Tests.{le-leb, le-ltb}
+use Rattle.tables.specs.Tables.{Tables, tablesOf}
 use Rattle.strings.specs.Strings.{maxStrings, maxBytes, startOf, endOf, textOf}
 use Rattle.schema.specs.RowRule.{maxRows}
 use Rattle.schema.specs.Rows.{rowsOf}
@@ -19,7 +20,7 @@ use Rattle.jobs.specs.Ascii.{ascii}
 use Rattle.jobs.specs.Numbers.{largestNumber, decimal, numberOf, wordsText, hexText}
 use Rattle.jobs.specs.Lines.{lineFeed, textOfLines, linesOf, isEnded, after}
 use Rattle.jobs.specs.Written.{stringLines, rowLines, jobLines, jobText}
-use Rattle.jobs.specs.Reading.{Tables, noTables, Reading, read, line, lines, count, atMost, rowOf, addString, addRow, addNode, readLines, readJob, maxFile, andThen}
+use Rattle.jobs.specs.Reading.{noTables, Reading, read, line, lines, count, atMost, rowOf, addString, addRow, addNode, readLines, readJob, maxFile, andThen}
 use Rattle.jobs.proofs.Decimals.{number-back}
 use Rattle.jobs.proofs.Texts.{Lacks, lacks-append, lacks-decimal, lacks-words, lacks-hex, Lined, lines-back, lined-append, lines-ended, after-back, Words, words-back, Bytes, bytes-back}
 
@@ -71,10 +72,10 @@ module _ (add : Tables → List ℕ → Option Tables) (key : List ℕ) (width :
       ∙ ap₂ (λ t k. next t k rest) (more t (take (suc width) table) (drop (suc width) table) ∙ ap (with t) (take-append-drop (suc width) table)) c)
 
 abbrev pub withRow : Tables → List ℕ → Tables
-withRow t row = record { bytes = t .bytes; ends = t .ends; schema = t .schema ++ row; instance = t .instance }
+withRow t row = tablesOf (t .strings) (t .schema ++ row) (t .instance)
 
 abbrev pub withNode : Tables → List ℕ → Tables
-withNode t row = record { bytes = t .bytes; ends = t .ends; schema = t .schema; instance = t .instance ++ row }
+withNode t row = tablesOf (t .strings) (t .schema) (t .instance ++ row)
 
 pub schema-back : (t : Tables) (row : List ℕ) → length row ≡ 3 → Words row → addRow t (ascii "row=" ++ wordsText row) ≡ some (withRow t row)
 schema-back t row e h = rw (row-back (ascii "row=") 2 row e h)

@@ -5,6 +5,7 @@ use mathlib.Core.List.{List, [], _∷_, _++_}
 use mathlib.Core.Option.{Option, none, some}
 use lib.ListN.{length}
 use lib.Dec.{ltb, leb, eqb}
+use Rattle.tables.specs.Tables.{Tables, tablesOf, stringTable}
 use Rattle.strings.specs.Strings.{maxStrings, maxBytes}
 use Rattle.schema.specs.RowRule.{maxRows}
 use Rattle.instance.specs.NodeRule.{maxNodes}
@@ -12,14 +13,8 @@ use Rattle.jobs.specs.Ascii.{ascii}
 use Rattle.jobs.specs.Numbers.{numberOf, wordOf, hexBytes}
 use Rattle.jobs.specs.Lines.{linesOf, isEnded, fieldsOf, after}
 
-pub record Tables : Type 0 where
-  pub bytes : List ℕ
-  pub ends : List ℕ
-  pub schema : List ℕ
-  pub instance : List ℕ
-
 abbrev pub noTables : Tables
-noTables = record { bytes = []; ends = []; schema = []; instance = [] }
+noTables = tablesOf (stringTable [] []) [] []
 
 pub data Reading : Type 0 where
   read : Tables → Reading
@@ -63,7 +58,10 @@ count key limit l = andThen (after key l) (λ text. andThen (numberOf text) (atM
 
 -- a string; all strings together keep the limit of bytes
 abbrev pub withString : Tables → List ℕ → Option Tables
-withString t text = cond (leb (length (t .bytes) + length text) maxBytes) (some (record { bytes = t .bytes ++ text; ends = t .ends ++ (length (t .bytes) + length text) ∷ []; schema = t .schema; instance = t .instance })) none
+withString t text =
+    cond (leb (length (t .strings .bytes) + length text) maxBytes)
+    (some (tablesOf (stringTable (t .strings .bytes ++ text) (t .strings .ends ++ (length (t .strings .bytes) + length text) ∷ [])) (t .schema) (t .instance)))
+    none
 
 abbrev pub addString : Tables → List ℕ → Option Tables
 addString t l = andThen (after (ascii "s=") l) (λ digits. andThen (hexBytes digits) (withString t))
@@ -79,10 +77,10 @@ abbrev pub rowOf : List ℕ → ℕ → List ℕ → Option (List ℕ)
 rowOf key width l = andThen (after key l) (λ text. wordsOf width (fieldsOf text))
 
 abbrev pub addRow : Tables → List ℕ → Option Tables
-addRow t l = andThen (rowOf (ascii "row=") 3 l) (λ row. some (record { bytes = t .bytes; ends = t .ends; schema = t .schema ++ row; instance = t .instance }))
+addRow t l = andThen (rowOf (ascii "row=") 3 l) (λ row. some (tablesOf (t .strings) (t .schema ++ row) (t .instance)))
 
 abbrev pub addNode : Tables → List ℕ → Option Tables
-addNode t l = andThen (rowOf (ascii "node=") 5 l) (λ row. some (record { bytes = t .bytes; ends = t .ends; schema = t .schema; instance = t .instance ++ row }))
+addNode t l = andThen (rowOf (ascii "node=") 5 l) (λ row. some (tablesOf (t .strings) (t .schema) (t .instance ++ row)))
 
 -- nothing comes after the last line
 abbrev pub nothingMore : List ℕ → Tables → ℕ → List (List ℕ) → Reading

@@ -11,7 +11,7 @@ use borrow.Author.Tests.{eq-eqb, ne-eqb}
 use Rattle.tables.specs.Place.{between}
 use Rattle.jobs.specs.Lines.{after}
 use Rattle.lines.specs.Parts.{KeyTo}
-use Rattle.numbers.proofs.Digits.{drop-one}
+use Rattle.tables.proofs.Parts.{drop-one}
 
 module _ (key line : List ℕ) (i : ℕ) where
   pub key-more : i < length key → i < length line → getD line i 0 ≡ getD key i 0 → after (drop i key) (drop i line) ≡ after (drop (i + 1) key) (drop (i + 1) line)

@@ -7,8 +7,9 @@ use native.Mathlib.Omega.{arith}
 use lib.ListN.{length, drop, getD, drop-of-length-le}
 use lib.Dec.{eqb}
 use borrow.Author.Tests.{eq-eqb}
+use Rattle.tables.specs.Tables.{Tables}
 use Rattle.jobs.specs.Lines.{lineFeed, linesOf, inFront, isEnded}
-use Rattle.jobs.specs.Reading.{Tables, read, wrong, nothingMore}
+use Rattle.jobs.specs.Reading.{read, wrong, nothingMore}
 
 ended : (l : List ℕ) (e : ℕ) → e < length l → length l ≤ e + 1 → getD l e 0 ≡ lineFeed → isEnded l ≡ true
 ended [] e h k f = absurd (omega arith)

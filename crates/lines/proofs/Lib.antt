@@ -1,4 +1,5 @@
 pub mod Fields
+pub mod Holding
 pub mod Keys
 pub mod LastLine
 pub mod Pairs

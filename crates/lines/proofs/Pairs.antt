@@ -9,7 +9,7 @@ use lib.ListN.{length, drop, getD, drop-of-length-le}
 use lib.Dec.{leb}
 use borrow.Author.Tests.{leb-true}
 use Rattle.jobs.specs.Numbers.{hexValue, hexPair, hexBytes}
-use Rattle.numbers.proofs.Digits.{drop-one}
+use Rattle.tables.proofs.Parts.{drop-one}
 use Rattle.lines.proofs.Stored.{prepend}
 
 pair-one : (h l : ℕ) (rest : Option (List ℕ)) → hexPair (some h) (some l) rest ≡ prepend ((h * 16 + l) ∷ []) rest

@@ -3,16 +3,17 @@ use mathlib.Core.Path.{_≡_, refl, sym, _∙_, ap}
 use mathlib.Core.Bool.{Bool, true, false, cond}
 use mathlib.Core.List.{List, [], _∷_, _++_}
 use mathlib.Core.Option.{Option, none, some, Option·some-injective}
-use Prim.Native.Nat.{ℕ, zero, suc, _+_, _≤_, _<_}
+use Prim.Native.Nat.{ℕ, _+_, _≤_, _<_}
 use native.Mathlib.Omega.{arith}
 use lib.ListN.{length}
 use lib.Dec.{leb, eqb}
 use borrow.Author.Tests.{eq-eqb, eqb-true, le-leb, lt-leb, leb-true}
+use Rattle.tables.specs.Tables.{Tables, tablesOf, stringTable}
 use Rattle.strings.specs.Strings.{maxBytes}
 use Rattle.jobs.specs.Ascii.{ascii}
-use Rattle.jobs.specs.Numbers.{numberOf, wordOf, hexBytes}
+use Rattle.jobs.specs.Numbers.{numberOf, hexBytes}
 use Rattle.jobs.specs.Lines.{fieldsOf, after}
-use Rattle.jobs.specs.Reading.{Tables, line, lineBy, literal, isNothing, andThen, count, atMost, withString, addString, wordsOf, rowOf}
+use Rattle.jobs.specs.Reading.{line, lineBy, literal, isNothing, andThen, count, atMost, withString, addString, wordsOf, rowOf}
 use Rattle.lines.specs.Parts.{stringAfter}
 use Rattle.lines.specs.Steps.{Passes, Stops}
 
@@ -106,38 +107,19 @@ string-keeps used l {text} = by-key (after (ascii "s=") l)
 
 -- a string line adds its bytes and their end
 abbrev pub withText : Tables → List ℕ → Tables
-withText t text = record { bytes = t .bytes ++ text; ends = t .ends ++ (length (t .bytes) + length text) ∷ []; schema = t .schema; instance = t .instance }
+withText t text = tablesOf (stringTable (t .strings .bytes ++ text) (t .strings .ends ++ (length (t .strings .bytes) + length text) ∷ [])) (t .schema) (t .instance)
 
-pub string-adds : (t : Tables) (l : List ℕ) → addString t l ≡ andThen (stringAfter (length (t .bytes)) l) (λ text. some (withText t text))
+pub string-adds : (t : Tables) (l : List ℕ) → addString t l ≡ andThen (stringAfter (length (t .strings .bytes)) l) (λ text. some (withText t text))
 string-adds t l = by-key (after (ascii "s=") l)
   where
     by-test : (text : List ℕ) (b : Bool) → cond b (some (withText t text)) none ≡ andThen (cond b (some text) none) (λ text. some (withText t text))
     by-test text true = refl
     by-test text false = refl
 
-    by-digits : (o : Option (List ℕ)) → andThen o (withString t) ≡ andThen (andThen o (withinBytes (length (t .bytes)))) (λ text. some (withText t text))
+    by-digits : (o : Option (List ℕ)) → andThen o (withString t) ≡ andThen (andThen o (withinBytes (length (t .strings .bytes)))) (λ text. some (withText t text))
     by-digits none = refl
-    by-digits (some text) = by-test text (leb (length (t .bytes) + length text) maxBytes)
+    by-digits (some text) = by-test text (leb (length (t .strings .bytes) + length text) maxBytes)
 
-    by-key : (o : Option (List ℕ)) → andThen o (λ digits. andThen (hexBytes digits) (withString t)) ≡ andThen (andThen o (λ digits. andThen (hexBytes digits) (withinBytes (length (t .bytes))))) (λ text. some (withText t text))
+    by-key : (o : Option (List ℕ)) → andThen o (λ digits. andThen (hexBytes digits) (withString t)) ≡ andThen (andThen o (λ digits. andThen (hexBytes digits) (withinBytes (length (t .strings .bytes))))) (λ text. some (withText t text))
     by-key none = refl
     by-key (some digits) = by-digits (hexBytes digits)
-
--- a row has as many words as its width
-words-size : (width : ℕ) (fields : List (List ℕ)) {ws : List ℕ} → wordsOf width fields ≡ some ws → length ws ≡ width
-words-size zero [] e = ap length (sym (Option·some-injective _ _ e))
-words-size zero (f ∷ fields) e = cc
-words-size (suc width) [] e = cc
-words-size (suc width) (f ∷ fields) {ws} e = by-word (wordOf f) (wordsOf width fields) (λ vs q. words-size width fields q) e
-  where
-    by-word : (o : Option ℕ) (p : Option (List ℕ)) → ((vs : List ℕ) → p ≡ some vs → length vs ≡ width) → andThen o (λ w. andThen p (λ vs. some (w ∷ vs))) ≡ some ws → length ws ≡ suc width
-    by-word none p size q = cc
-    by-word (some w) none size q = cc
-    by-word (some w) (some vs) size q = ap length (sym (Option·some-injective _ _ q)) ∙ ap suc (size vs refl)
-
-pub row-size : (key : List ℕ) (width : ℕ) (l : List ℕ) {ws : List ℕ} → rowOf key width l ≡ some ws → length ws ≡ width
-row-size key width l {ws} = by-key (after key l)
-  where
-    by-key : (o : Option (List ℕ)) → andThen o (λ text. wordsOf width (fieldsOf text)) ≡ some ws → length ws ≡ width
-    by-key none e = cc
-    by-key (some text) e = words-size width (fieldsOf text) e

@@ -7,14 +7,16 @@ use native.Mathlib.Omega.{arith}
 use native.Mathlib.Numerals.{add-one}
 use lib.ListN.{length, drop, set, length-append}
 use lib.Seq.{sets, length-sets}
+use Rattle.tables.specs.Tables.{Tables}
 use Rattle.strings.specs.Strings.{maxStrings, maxBytes}
 use Rattle.tables.specs.Place.{between}
 use Rattle.jobs.specs.Lines.{linesOf}
-use Rattle.jobs.specs.Reading.{Tables, wrong, lineBy, lines, andThen, addString, rowOf}
+use Rattle.jobs.specs.Reading.{wrong, lineBy, lines, andThen, addString, rowOf}
 use Rattle.lines.specs.Parts.{stringAfter, LineTo, StoredTo}
 use Rattle.lines.specs.Steps.{Next, Add, stringTables, readStrings, StringsTo, Adds, readRows, RowsTo, RowsStop}
 use Rattle.tables.proofs.Stores.{sets-append}
-use Rattle.lines.proofs.Passing.{withText, string-keeps, string-adds, row-size}
+use Rattle.lines.proofs.Passing.{withText, string-keeps, string-adds}
+use Rattle.jobs.proofs.Limits.{row-length}
 
 -- ---- one line of several
 module _ (add : Add) where
@@ -202,5 +204,5 @@ module _ {key : List ℕ} {width rows n : ℕ} {ls : List (List ℕ)} {file out 
                 ∙ ap (λ (i : ℕ). sets (sets out 0 (s .words)) i (r .run)) (s .size ∙ omega arith)
                 ∙ sets-append out 0 (s .words) (r .run);
             size = omega (arith, s .size, r .ends, length-append (s .words) (r .run));
-            small = omega (arith, s .small, r .ends, row-size key width (between file at e) (r .is));
+            small = omega (arith, s .small, r .ends, row-length key width (between file at e) (r .is));
           }

@@ -11,7 +11,7 @@ use lib.Dec.{eqb}
 use borrow.Author.Tests.{eq-eqb, ne-eqb, le-leb, lt-leb}
 use Rattle.tables.specs.Place.{between}
 use Rattle.jobs.specs.Lines.{inFront, linesOf, fieldsOf, lineFeed, comma}
-use Rattle.numbers.proofs.Digits.{drop-one}
+use Rattle.tables.proofs.Parts.{drop-one}
 use Rattle.lines.specs.Parts.{LineTo, FieldEnd}
 
 -- one byte more

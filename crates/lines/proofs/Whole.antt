@@ -6,14 +6,14 @@ use native.Mathlib.Omega.{arith}
 use native.Mathlib.Numerals.{add-one}
 use lib.ListN.{length, drop}
 use borrow.Author.Tests.{lt-ltb, le-ltb}
+use Rattle.tables.specs.Tables.{Tables, tablesOf}
 use Rattle.strings.specs.Strings.{maxStrings}
 use Rattle.schema.specs.RowRule.{maxRows}
 use Rattle.instance.specs.NodeRule.{maxNodes}
 use Rattle.jobs.specs.Ascii.{ascii}
 use Rattle.jobs.specs.Lines.{linesOf}
-use Rattle.jobs.specs.Reading.{Tables, maxFile, readJob, readLines, read, wrong, lines, literal, count, addRow, addNode}
-use Rattle.lines.specs.Steps.{Passes, Stops, Next, Add, stringTables, readStrings, StringsTo, Adds, readRows, readTable, RowsTo, RowsStop, RowSection, readEnd, readFront, maxFront, readBack, withRows, BackTo}
-use Rattle.lines.specs.Promises.{TablesTo}
+use Rattle.jobs.specs.Reading.{maxFile, readJob, readLines, read, wrong, lines, literal, count, addRow, addNode}
+use Rattle.lines.specs.Steps.{Passes, Stops, Next, Add, stringTables, readStrings, StringsTo, Adds, readRows, readTable, RowsTo, RowsStop, RowSection, readEnd, readFront, maxFront, readBack, withRows, BackTo, LinesTo}
 use Rattle.lines.specs.declared.Section.{Section}
 use Rattle.lines.specs.declared.Section.the-variants.{Read, Wrong}
 
@@ -34,23 +34,23 @@ module _ (counted : List ℕ) (limit : ℕ) {ls rest : List (List ℕ)} {rows : 
   table-section key width file out out′ h (Wrong m) s = record { stops = λ {add} a t next. after-count add t next ∙ s .stops a t next }
 
 abbrev withSchema : Tables → List ℕ → Tables
-withSchema t row = record { bytes = t .bytes; ends = t .ends; schema = t .schema ++ row; instance = t .instance }
+withSchema t row = tablesOf (t .strings) (t .schema ++ row) (t .instance)
 
 abbrev withInstance : Tables → List ℕ → Tables
-withInstance t row = record { bytes = t .bytes; ends = t .ends; schema = t .schema; instance = t .instance ++ row }
+withInstance t row = tablesOf (t .strings) (t .schema) (t .instance ++ row)
 
 adds-row : Adds (ascii "row=") 3 addRow withSchema
 adds-row = record {
   each = λ t l. refl;
-  grow-none = λ t. ap (λ (s : List ℕ). record { bytes = t .bytes; ends = t .ends; schema = s; instance = t .instance }) (append-nil (t .schema));
-  grow-more = λ t a b. ap (λ (s : List ℕ). record { bytes = t .bytes; ends = t .ends; schema = s; instance = t .instance }) (append-assoc (t .schema) a b);
+  grow-none = λ t. ap (λ (s : List ℕ). tablesOf (t .strings) s (t .instance)) (append-nil (t .schema));
+  grow-more = λ t a b. ap (λ (s : List ℕ). tablesOf (t .strings) s (t .instance)) (append-assoc (t .schema) a b);
 }
 
 adds-node : Adds (ascii "node=") 5 addNode withInstance
 adds-node = record {
   each = λ t l. refl;
-  grow-none = λ t. ap (λ (s : List ℕ). record { bytes = t .bytes; ends = t .ends; schema = t .schema; instance = s }) (append-nil (t .instance));
-  grow-more = λ t a b. ap (λ (s : List ℕ). record { bytes = t .bytes; ends = t .ends; schema = t .schema; instance = s }) (append-assoc (t .instance) a b);
+  grow-none = λ t. ap (λ (s : List ℕ). tablesOf (t .strings) (t .schema) s) (append-nil (t .instance));
+  grow-more = λ t a b. ap (λ (s : List ℕ). tablesOf (t .strings) (t .schema) s) (append-assoc (t .instance) a b);
 }
 
 -- ---- the front
@@ -104,8 +104,6 @@ module _ (file : List ℕ) (n : ℕ) (ls : List (List ℕ)) where
         instance-holds = nodes .holds;
         schema-size = rows .size;
         instance-size = nodes .size;
-        schema-small = rows .small;
-        instance-small = nodes .small;
       }
 
 -- ---- the whole file
@@ -127,7 +125,7 @@ module _ (file : List ℕ) where
           ∙ front .passes (λ t n rest. readBack file n rest t)
           ∙ e (stringTables (front .text) (front .marks))
 
-      pub lines-done : {schema instance schema′ instance′ : List ℕ} {r i : ℕ} → BackTo file n (linesOf (drop at file)) schema instance schema′ instance′ r i → TablesTo file bytes ends schema instance bytes′ ends′ schema′ instance′ used strings r i
+      pub lines-done : {schema instance schema′ instance′ : List ℕ} {r i : ℕ} → BackTo file n (linesOf (drop at file)) schema instance schema′ instance′ r i → LinesTo file bytes ends schema instance bytes′ ends′ schema′ instance′ used strings r i
       lines-done back = record {
         tables = withRows (stringTables (front .text) (front .marks)) (back .row-words) (back .node-words);
         reads =
@@ -142,8 +140,4 @@ module _ (file : List ℕ) where
         ends-size = sym (front .many);
         schema-size = back .schema-size;
         instance-size = back .instance-size;
-        bytes-small = front .small;
-        ends-small = front .few;
-        schema-small = back .schema-small;
-        instance-small = back .instance-small;
       }

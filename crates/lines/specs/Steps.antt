@@ -5,13 +5,13 @@ use mathlib.Core.List.{List, [], _++_}
 use mathlib.Core.Option.{Option, some}
 use lib.ListN.{length, getD, drop}
 use lib.Seq.{sets}
+use Rattle.tables.specs.Tables.{Tables, tablesOf, stringTable}
 use Rattle.strings.specs.Strings.{maxStrings, maxBytes}
 use Rattle.schema.specs.RowRule.{maxRows}
 use Rattle.instance.specs.NodeRule.{maxNodes}
 use Rattle.jobs.specs.Ascii.{ascii}
 use Rattle.jobs.specs.Lines.{lineFeed, linesOf}
-use Rattle.jobs.specs.Reading.{Tables, noTables, Reading, read, wrong, line, lines, literal, count, addString, addRow, addNode, rowOf, andThen, nothingMore}
-use Rattle.lines.specs.Promises.{maxWords}
+use Rattle.jobs.specs.Reading.{noTables, Reading, read, wrong, line, lines, literal, count, addString, addRow, addNode, rowOf, andThen, nothingMore, readJob}
 use Rattle.lines.specs.declared.Found.{Found}
 use Rattle.lines.specs.declared.Found.the-variants.{At, Nothing}
 use Rattle.lines.specs.declared.Counted.{Counted}
@@ -24,6 +24,12 @@ use Rattle.lines.specs.declared.Front.{Front}
 use Rattle.lines.specs.declared.Front.the-variants as front
 use Rattle.lines.specs.declared.Back.{Back}
 use Rattle.lines.specs.declared.Back.the-variants as back
+use Rattle.lines.specs.declared.Held.{Held}
+use Rattle.lines.specs.declared.Held.the-variants as held
+
+-- the most words that a table of rows has
+abbrev pub maxWords : ℕ
+maxWords = 5120
 
 -- ---- one line
 -- the first line holds a, and the rest comes after it
@@ -63,7 +69,7 @@ Add = Tables → List ℕ → Option Tables
 
 -- tables that hold strings alone
 abbrev pub stringTables : List ℕ → List ℕ → Tables
-stringTables bytes ends = record { bytes = bytes; ends = ends; schema = []; instance = [] }
+stringTables bytes ends = tablesOf (stringTable bytes ends) [] []
 
 abbrev pub readStrings : ℕ → ℕ → List (List ℕ) → Next → Reading
 readStrings strings n ls next = lines addString strings noTables n ls next
@@ -148,7 +154,7 @@ readBack file n ls t =
 
 -- the tables with the words of rows added
 abbrev pub withRows : Tables → List ℕ → List ℕ → Tables
-withRows t schema instance = record { bytes = t .bytes; ends = t .ends; schema = t .schema ++ schema; instance = t .instance ++ instance }
+withRows t schema instance = tablesOf (t .strings) (t .schema ++ schema) (t .instance ++ instance)
 
 -- both tables are read, and stand in their outputs as far as they fit
 pub record BackTo (file : List ℕ) (n : ℕ) (ls : List (List ℕ)) (schema instance schema′ instance′ : List ℕ) (r i : ℕ) : Type 0 where
@@ -159,14 +165,30 @@ pub record BackTo (file : List ℕ) (n : ℕ) (ls : List (List ℕ)) (schema ins
   pub instance-holds : instance′ ≡ sets instance 0 node-words
   pub schema-size : r ≡ length row-words
   pub instance-size : i ≡ length node-words
-  pub schema-small : r ≤ maxWords
-  pub instance-small : i ≤ maxWords
 
 abbrev pub BackRead : List ℕ → ℕ → List (List ℕ) → List ℕ → List ℕ → List ℕ → List ℕ → Back → Type 0
 BackRead file n ls schema instance schema′ instance′ (back.Read r i) = BackTo file n ls schema instance schema′ instance′ r i
 BackRead file n ls schema instance schema′ instance′ (back.Wrong m) = (t : Tables) → readBack file n ls t ≡ wrong m
 
--- a table that is wrong makes the file wrong at its line
-abbrev pub stoppedBy : Section → Back
-stoppedBy (section.Read at n used) = back.Wrong 0
-stoppedBy (section.Wrong n) = back.Wrong n
+-- the line that a table stops at: the one after it, or its first wrong one
+abbrev pub lineOf : Section → ℕ
+lineOf (section.Read at n used) = n
+lineOf (section.Wrong n) = n
+
+-- ---- all lines
+-- the lines are read, each table stands at the front of its output as far as it fits, and b, s, r and i are the lengths of the tables
+pub record LinesTo (file bytes ends schema instance bytes′ ends′ schema′ instance′ : List ℕ) (b s r i : ℕ) : Type 0 where
+  pub tables : Tables
+  pub reads : readJob file ≡ read tables
+  pub bytes-hold : bytes′ ≡ sets bytes 0 (tables .strings .bytes)
+  pub ends-hold : ends′ ≡ sets ends 0 (tables .strings .ends)
+  pub schema-hold : schema′ ≡ sets schema 0 (tables .schema)
+  pub instance-hold : instance′ ≡ sets instance 0 (tables .instance)
+  pub bytes-size : b ≡ length (tables .strings .bytes)
+  pub ends-size : s ≡ length (tables .strings .ends)
+  pub schema-size : r ≡ length (tables .schema)
+  pub instance-size : i ≡ length (tables .instance)
+
+abbrev pub LinesHeld : List ℕ → List ℕ → List ℕ → List ℕ → List ℕ → List ℕ → List ℕ → List ℕ → List ℕ → Held → Type 0
+LinesHeld file bytes ends schema instance bytes′ ends′ schema′ instance′ (held.Tables b s r i) = LinesTo file bytes ends schema instance bytes′ ends′ schema′ instance′ b s r i
+LinesHeld file bytes ends schema instance bytes′ ends′ schema′ instance′ (held.Wrong n) = readJob file ≡ wrong n

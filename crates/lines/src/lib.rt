@@ -2,16 +2,16 @@
 use numbers::Number;
 ghost use mathlib.Core.Path.{_≡_};
 ghost use Prim.Native.Nat.{_+_, _≤_, _<_};
-ghost use lib.ListN.{length, drop, set};
+ghost use lib.ListN.{length, drop};
 ghost use Rattle.strings.specs.Strings.{maxStrings, maxBytes};
 ghost use Rattle.instance.specs.NodeRule.{maxNodes};
 ghost use Rattle.jobs.specs.Numbers.{hexBytes};
 ghost use Rattle.jobs.specs.Lines.{linesOf, fieldsOf};
-ghost use Rattle.jobs.specs.Reading.{maxFile, count, wordsOf, rowOf};
+ghost use Rattle.jobs.specs.Reading.{maxFile, count, wordsOf, rowOf, readJob, noTables};
 ghost use Rattle.numbers.specs.Answers.{asNumber};
 ghost use Rattle.lines.specs.Parts.{stringAfter, LineEnd, KeyEnd, FieldEnd, Stores};
-ghost use Rattle.lines.specs.Steps.{LiteralLine, CountLine, StringSection, readStrings, RowSection, readRows, readTable, EndLine, stoppedBy, FrontRead, BackRead, maxFront};
-ghost use Rattle.lines.specs.Promises.{TablesHeld, maxWords};
+ghost use Rattle.lines.specs.Steps.{LiteralLine, CountLine, StringSection, readStrings, RowSection, readRows, readTable, EndLine, lineOf, FrontRead, BackRead, maxFront, maxWords, LinesHeld};
+ghost use Rattle.lines.specs.Promises.{heldAs, tablesIn, roomOf, OutputsHold};
 
 // A position, if there is one.
 enum Found {
@@ -53,29 +53,6 @@ enum Back {
 pub enum Held {
     Tables(usize, usize, usize, usize),
     Wrong(u32),
-}
-
-// The longest file.
-pub const MAX_FILE: usize = 65536;
-
-// A byte stored in an output, where it fits.
-fn put_u8(out: &mut [u8], i: usize, v: u8)
-    ensures { λ _. ⌜ now (out .exit) ≡ set (now (out .entry)) i v ⌝ }
-{
-    if i < out.len() {
-        out[i] = v;
-        return;
-    }
-}
-
-// A word stored in an output, where it fits.
-fn put_u32(out: &mut [u32], i: usize, v: u32)
-    ensures { λ _. ⌜ now (out .exit) ≡ set (now (out .entry)) i v ⌝ }
-{
-    if i < out.len() {
-        out[i] = v;
-        return;
-    }
 }
 
 // Where the line ends that starts at a position.
@@ -141,7 +118,7 @@ fn hex_bytes(text: &[u8], out: &mut [u8], from: usize) -> Found
         let Number::Value(low) = numbers::hex_digit(text[i + 1]) else {
             return Found::Nothing;
         };
-        put_u8(out, to, (high * 16 + low) as u8);
+        tables::put_u8(out, to, (high * 16 + low) as u8);
         to += 1;
         i += 2;
     }
@@ -164,7 +141,7 @@ fn words(text: &[u8], width: usize, out: &mut [u32], from: usize) -> Found
         let Number::Value(w) = numbers::read_word(&text[start..end]) else {
             return Found::Nothing;
         };
-        put_u32(out, to, w);
+        tables::put_u32(out, to, w);
         to += 1;
         left -= 1;
         start = end + 1;
@@ -267,7 +244,7 @@ fn read_strings(
         let Found::At(to) = string_line(&file[start..e], bytes, used) else {
             return Section::Wrong(line + k);
         };
-        put_u32(ends, k as usize, to as u32);
+        tables::put_u32(ends, k as usize, to as u32);
         start = e + 1;
         used = to;
         k += 1;
@@ -339,13 +316,13 @@ fn end_line(file: &[u8], at: usize, line: u32) -> Ending
     Ending::Ended
 }
 
-// The answer where a section is wrong.
-fn stopped(section: Section) -> Back
-    ensures { λ r. ⌜ r ≡ stoppedBy section ⌝ }
+// The line that a section stops at: the next one, or the wrong one.
+fn line_of(section: Section) -> u32
+    ensures { λ r. ⌜ r ≡ lineOf section ⌝ }
 {
     match section {
-        Section::Read(_, _, _) => Back::Wrong(0),
-        Section::Wrong(line) => Back::Wrong(line),
+        Section::Read(_, next, _) => next,
+        Section::Wrong(line) => line,
     }
 }
 
@@ -382,7 +359,7 @@ fn read_back(file: &[u8], at: usize, line: u32, schema: &mut [u32], instance: &m
         schema,
     );
     let Section::Read(at_instance, line_instance, row_words) = rows else {
-        return stopped(rows);
+        return Back::Wrong(line_of(rows));
     };
     let nodes = read_table(
         file,
@@ -395,7 +372,7 @@ fn read_back(file: &[u8], at: usize, line: u32, schema: &mut [u32], instance: &m
         instance,
     );
     let Section::Read(at_end, last_line, node_words) = nodes else {
-        return stopped(nodes);
+        return Back::Wrong(line_of(nodes));
     };
     match end_line(file, at_end, last_line) {
         Ending::Wrong(last) => Back::Wrong(last),
@@ -403,17 +380,17 @@ fn read_back(file: &[u8], at: usize, line: u32, schema: &mut [u32], instance: &m
     }
 }
 
-// The lines of a file, each table stored in its output as far as it fits.
-pub fn read_tables(
+// The lines of a file, each table stored from the front of its output as far as it fits; where a line is wrong, what was stored before it is found is left.
+fn read_lines(
     file: &[u8],
     bytes: &mut [u8],
     ends: &mut [u32],
     schema: &mut [u32],
     instance: &mut [u32],
 ) -> Held
-    ensures { λ r. ⌜ TablesHeld (now (file .entry)) (now (bytes .entry)) (now (ends .entry)) (now (schema .entry)) (now (instance .entry)) (now (bytes .exit)) (now (ends .exit)) (now (schema .exit)) (now (instance .exit)) r ⌝ }
+    ensures { λ r. ⌜ LinesHeld (now (file .entry)) (now (bytes .entry)) (now (ends .entry)) (now (schema .entry)) (now (instance .entry)) (now (bytes .exit)) (now (ends .exit)) (now (schema .exit)) (now (instance .exit)) r ⌝ }
 {
-    if MAX_FILE < file.len() {
+    if jobs::MAX_FILE < file.len() {
         return Held::Wrong(0);
     }
     match read_front(file, bytes, ends) {
@@ -423,4 +400,34 @@ pub fn read_tables(
             Back::Read(r, i) => Held::Tables(b, s, r, i),
         },
     }
+}
+
+// All four outputs zero.
+pub fn zero_outputs(bytes: &mut [u8], ends: &mut [u32], schema: &mut [u32], instance: &mut [u32])
+    ensures { λ _. ⌜ OutputsHold noTables (roomOf (now (bytes .entry)) (now (ends .entry)) (now (schema .entry)) (now (instance .entry))) (now (bytes .exit)) (now (ends .exit)) (now (schema .exit)) (now (instance .exit)) ⌝ }
+{
+    tables::zero_u8(bytes);
+    tables::zero_u32(ends);
+    tables::zero_u32(schema);
+    tables::zero_u32(instance);
+}
+
+// The lines of a file: each table laid in its output as far as it fits, and none where a line is wrong.
+pub fn read_tables(
+    file: &[u8],
+    bytes: &mut [u8],
+    ends: &mut [u32],
+    schema: &mut [u32],
+    instance: &mut [u32],
+) -> Held
+    ensures answer { λ r. ⌜ r ≡ heldAs (readJob (now (file .entry))) ⌝ }
+    ensures outputs { λ _. ⌜ OutputsHold (tablesIn (readJob (now (file .entry)))) (roomOf (now (bytes .entry)) (now (ends .entry)) (now (schema .entry)) (now (instance .entry))) (now (bytes .exit)) (now (ends .exit)) (now (schema .exit)) (now (instance .exit)) ⌝ }
+{
+    zero_outputs(bytes, ends, schema, instance);
+    let held = read_lines(file, bytes, ends, schema, instance);
+    let Held::Wrong(line) = held else {
+        return held;
+    };
+    zero_outputs(bytes, ends, schema, instance);
+    Held::Wrong(line)
 }

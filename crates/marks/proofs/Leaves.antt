@@ -24,7 +24,7 @@ use Rattle.rules.specs.Items.{element, string, none, Lookups}
 use Rattle.rules.specs.Rules.{Match, WeakMatch, NotMatchBy, text-1, text-2, data-1, data-2}
 use Rattle.rules.specs.Rules as rule
 use Rattle.rules.specs.Job.{lookups}
-use Rattle.rules.proofs.Booleans.{or-either, or-left, or-right, and-left, and-right, and-both}
+use Rattle.tables.proofs.Booleans.{or-either, or-left, or-right, and-left, and-right, both-and}
 use Rattle.rules.proofs.Inversion.{One, step}
 use Rattle.rules.proofs.OneElement.{weak-string}
 use Rattle.rules.proofs.Passing.{restricted}
@@ -96,7 +96,7 @@ module _ {J : Tables} {alone nothing blank pairs items : List ℕ} {e attributes
       from : WeakMatch L Not none (string (textOf (J .strings) v) ∷ []) (patternOf s q) → valueFits alone nothing blank q v ≡ true
       from w =
           ⊎-elim (λ d. or-left (eqb (getD blank v 0) 1 && eqb (getD nothing q 0) 1) (by-string .1 d))
-          (λ d. or-right (eqb (entry alone q v) 1) (and-both (is-blank .1 (d .0)) (by-nothing .1 (d .1))))
+          (λ d. or-right (eqb (entry alone q v) 1) (both-and (is-blank .1 (d .0)) (by-nothing .1 (d .1))))
           (weakly .0 w)
 
   module _ (p : ℕ) (row : p < rowsOf s) where
@@ -144,7 +144,7 @@ module _ {J : Tables} {alone nothing blank pairs items : List ℕ} {e attributes
             let n = hasName s t (aOf s p) (attributeRow e x) in
             let v = valueFits alone nothing blank (bOf s p) (node.cOf t (attributeRow e x)) in
             let y = value-fits (bOf s p) (node.cOf t (attributeRow e x)) below (g .values x i) in
-            (λ u. record { named = and-left n v u; valued = y .0 (and-right n v u) }, λ d. and-both (d .named) (y .1 (d .valued)))
+            (λ u. record { named = and-left n v u; valued = y .0 (and-right n v u) }, λ d. both-and (d .named) (y .1 (d .valued)))
 
     pub leaf-none : (3 ≤ kindOf s p → ¬ (kindOf s p < 6)) → kindOf s p ≢ kind.attribute → kindOf s p ≢ kind.ref → Leaf p 0
     leaf-none no-string no-attribute no-ref = record {

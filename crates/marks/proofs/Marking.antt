@@ -18,7 +18,7 @@ use Rattle.schema.specs.Rows.{kindOf, aOf, bOf, shapeOf}
 use Rattle.schema.specs.Views.{patternOf}
 use Rattle.schema.proofs.Children.{child-less}
 use Rattle.rules.specs.Items.{Item}
-use Rattle.rules.proofs.Booleans.{and-left, and-right}
+use Rattle.tables.proofs.Booleans.{and-left, and-right}
 use Rattle.rules.specs.Reach.{Operand, operand}
 use Rattle.rules.proofs.RowPatterns.{part-child, operand-occurs}
 use Rattle.marks.specs.Answers.{firstOperand, secondOperand}

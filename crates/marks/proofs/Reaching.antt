@@ -17,7 +17,7 @@ use Rattle.sets.specs.Collecting.{Collects}
 use Rattle.sets.proofs.Collecting.{collected}
 use Rattle.rules.specs.Items.{Item, element, string, Lookups}
 use Rattle.rules.specs.Job.{lookups}
-use Rattle.rules.proofs.Booleans.{is-false}
+use Rattle.tables.proofs.Booleans.{is-false}
 use Rattle.rules.proofs.KindTests.{attribute-made, ref-made}
 use Rattle.rules.specs.Reach.{stringBy, elementBy, Reaches, here, namesAttribute, namesElement, takes, takesString}
 use Rattle.rules.proofs.RowPatterns.{Makes, row-makes}

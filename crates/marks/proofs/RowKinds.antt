@@ -15,7 +15,7 @@ use Rattle.schema.specs.Views.{Pattern, patternBy, patternOf, text, attribute, 
 use Rattle.schema.proofs.Fields.{both-fields, is-text, is-data, is-value}
 use Rattle.schema.proofs.Sorts.{definition-kind}
 use Rattle.rules.specs.Reach.{Role, oneString, roleOf, itemBy, stringBy, isSharing, takesAny, takesString, Operand, repeated, choice-first, choice-second, group-first, group-second, interleave-first, interleave-second}
-use Rattle.rules.proofs.Booleans.{or-either}
+use Rattle.tables.proofs.Booleans.{or-either}
 use Rattle.rules.proofs.KindTests.{HasRole, role-strings, role-string, role-attribute, role-element, role-sharing, role-another, has-role}
 use Rattle.rules.proofs.RowPatterns.{Makes, makes-empty, makes-notAllowed, makes-text, makes-data, makes-except, makes-value, makes-attribute, makes-ref, makes-oneOrMore, makes-choice, makes-group, makes-interleave, makes-none, has-kind}
 

@@ -20,7 +20,7 @@ use Rattle.relations.specs.Relations.{Or, And, Then}
 use Rattle.relations.specs.Words.{Holds, Is, Empty, Gap, Single, Up, front, next}
 use Rattle.sets.specs.Bits.{positions, bit}
 use Rattle.sets.proofs.Members.{and-has, none-has}
-use Rattle.rules.proofs.Booleans.{and-left, and-right, is-false}
+use Rattle.tables.proofs.Booleans.{and-left, and-right, is-false}
 use Rattle.rules.proofs.Passing.{restricted}
 use Rattle.rules.specs.Reach.{oneString, roleOf, Operand, Part, operand, repeated, choice-first, choice-second, group-first, group-second, interleave-first, interleave-second}
 use Rattle.rules.proofs.RowPatterns.{Makes, row-makes, makes-empty, makes-notAllowed, makes-text, makes-data, makes-except, makes-value, makes-attribute, makes-ref, makes-oneOrMore, makes-choice, makes-group, makes-interleave, makes-none}

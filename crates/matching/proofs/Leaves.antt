@@ -19,7 +19,8 @@ use Rattle.sets.proofs.Bits.{bit-without}
 use Rattle.rules.specs.Items.{Item, element, string, Attributes, none, only, Lookups}
 use Rattle.rules.specs.Rules.{Match, NotMatchBy}
 use Rattle.rules.specs.Job.{lookups}
-use Rattle.rules.proofs.Booleans.{and-left, and-right, is-false, sole-member}
+use Rattle.tables.proofs.Booleans.{and-left, and-right, is-false}
+use Rattle.rules.proofs.Booleans.{sole-member}
 use Rattle.rules.proofs.Inversion.{One}
 use Rattle.rules.proofs.Sequences.{hasElement}
 use Rattle.rules.specs.Spans.{run, Span}

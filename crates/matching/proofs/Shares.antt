@@ -13,7 +13,8 @@ use Rattle.sets.specs.Bits.{bit}
 use Rattle.sets.proofs.Bits.{bit-and, bit-without, bit-none, bit-empty}
 use Rattle.rules.specs.Items.{Attributes, none}
 use Rattle.rules.specs.Job.{lookups}
-use Rattle.rules.proofs.Booleans.{_∩_, _∖_, and-left, and-right, and-both}
+use Rattle.tables.proofs.Booleans.{and-left, and-right, both-and}
+use Rattle.rules.proofs.Booleans.{_∩_, _∖_}
 use Rattle.rules.proofs.Occurrences.{clean-part}
 use Rattle.rules.specs.Reach.{Operand}
 use Rattle.rules.proofs.Repeats.{distinct-part}
@@ -82,4 +83,4 @@ module _ {s : List ℕ} (S : Setting s) {a k : ℕ} (asked : Asked S a k) where
   }
     where
       wider : (r : ℕ) → attributesIn (S .element) b r ≡ true → attributesIn (S .element) a r ≡ true
-      wider r h = and-both (and-left (ltb (S .element) r) (hasRow (S .element) b r) h) (f (numberOf (S .element) r) (in-row (S .element) b r h .1))
+      wider r h = both-and (and-left (ltb (S .element) r) (hasRow (S .element) b r) h) (f (numberOf (S .element) r) (in-row (S .element) b r h .1))

@@ -7,18 +7,12 @@ use mathlib.Core.Option.{Option, none, some}
 use Prim.Native.Nat.{ℕ, _+_, _-_, _*_, _≤_, _<_}
 use native.Mathlib.Nat.{le-trans}
 use native.Mathlib.Omega.{arith}
-use native.Mathlib.Numerals.{add-one}
 use lib.ListN.{length, drop, getD}
-use lib.Seq.{drop-cons}
 use lib.Dec.{eqb}
 use borrow.Author.Tests.{le-leb, lt-leb, eq-eqb, ne-eqb}
 use Rattle.jobs.specs.Numbers.{isDigit, allDigits, noLeadingZero, valueFrom, numberOf, wordOf, hexValue, largestNumber, largestWord}
 use Rattle.numbers.specs.Answers.{asNumber, digitsOf}
 use Rattle.numbers.specs.declared.Number.the-variants.{Value, NoNumber}
-
--- the text from i on, taken apart
-pub drop-one : (s : List ℕ) (i : ℕ) → i < length s → drop i s ≡ getD s i 0 ∷ drop (i + 1) s
-drop-one s i h = rw (add-one, drop-cons s i 0)
 
 -- what an answer says of the number
 pub value-is : (o : Option ℕ) {n : ℕ} → asNumber o ≡ Value n → o ≡ some n

@@ -1,37 +1,12 @@
--- Laws of Boolean tests, and subsets of a set of rows or positions by a test.
+-- Subsets of a set of rows or positions by a test.
 use Prim.Native.Nat.{ℕ}
 use mathlib.Core.Path.{_≡_, refl, ap, sym, _∙_, fun-ext}
 use mathlib.Core.Bool.{Bool, true, false, not, _&&_, _||_, true≢false, false≢true, or-comm}
 use mathlib.Core.Logic.{_⊎_, inl, inr}
 use lib.Dec.{eqb}
 use borrow.Author.Tests.{eqb-true, eqb-false, eq-eqb, not-true}
+use Rattle.tables.proofs.Booleans.{or-left, or-right, and-right, is-false}
 use Rattle.rules.specs.Items.{Attributes, none, only, _∪_}
-
-pub or-either : (a b : Bool) → (a || b) ≡ true → (a ≡ true) ⊎ (b ≡ true)
-or-either true b e = inl refl
-or-either false b e = inr e
-
-pub or-left : {a : Bool} (b : Bool) → a ≡ true → (a || b) ≡ true
-or-left b e = rw e
-
-pub or-right : (a : Bool) {b : Bool} → b ≡ true → (a || b) ≡ true
-or-right true e = refl
-or-right false e = e
-
-pub and-left : (a b : Bool) → (a && b) ≡ true → a ≡ true
-and-left true b e = refl
-and-left false b e = e
-
-pub and-right : (a b : Bool) → (a && b) ≡ true → b ≡ true
-and-right true b e = e
-and-right false b e = absurd (false≢true e)
-
-pub and-both : {a b : Bool} → a ≡ true → b ≡ true → (a && b) ≡ true
-and-both e f = rw (e, f)
-
-pub is-false : (b : Bool) → ¬ (b ≡ true) → b ≡ false
-is-false true h = absurd (h refl)
-is-false false h = refl
 
 -- a set with no member, and one with a single member
 pub no-member : (A : Attributes) → ((x : ℕ) → ¬ (A x ≡ true)) → A ≡ none

@@ -9,7 +9,8 @@ use Rattle.schema.specs.Views.{group, interleave}
 use Rattle.relations.specs.Relations.{And, Then}
 use Rattle.rules.specs.Items.{Item, Attributes, _∪_, Lookups}
 use Rattle.rules.specs.Rules.{Match}
-use Rattle.rules.proofs.Booleans.{_∩_, _∖_, or-left, or-right, is-false, both-parts, first-part, second-part}
+use Rattle.tables.proofs.Booleans.{or-left, or-right, is-false}
+use Rattle.rules.proofs.Booleans.{_∩_, _∖_, both-parts, first-part, second-part}
 use Rattle.rules.proofs.Interleavings.{shuffle, interleaved, swap, among-first, run-shuffle, shuffle-run}
 use Rattle.rules.proofs.Inversion.{cast}
 use Rattle.rules.specs.Spans.{CleanAt, Span}

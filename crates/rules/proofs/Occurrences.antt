@@ -10,7 +10,7 @@ use Rattle.schema.specs.Views as pattern
 use Rattle.rules.specs.Items.{Item, string, Attributes, Lookups}
 use Rattle.rules.specs.Items as item
 use Rattle.rules.specs.Rules.{Ws, ws-empty, ws-string, Match, choice-1, choice-2, group, empty, text-1, text-2, oneOrMore-1, oneOrMore-2, interleave, attribute, element, value, data-1, data-2}
-use Rattle.rules.proofs.Booleans.{or-either, and-both}
+use Rattle.tables.proofs.Booleans.{or-either, both-and}
 use Rattle.rules.proofs.Interleavings.{shuffle, swap, among-first, among-either}
 use Rattle.rules.proofs.Positions.{among-run}
 use Rattle.rules.specs.Spans.{CleanAt, run}
@@ -101,7 +101,7 @@ module _ (L : Lookups) where
         by-ref d e w v f n b a g y h =
             let z = clean-element e (λ i s j k. c i s (g (item.element i) j) (g (string s) k)) b a in
             let k : Among y (item.element e ∷ []) = rw (z .0, z .1) at h in
-            rw (← among-one k) (and-both f n)
+            rw (← among-one k) (both-and f n)
 
     -- a pattern that takes nothing matches no items
     pub takes-nothing : {a : Attributes} {m : List Item} {x : Pattern} → Match L NotMatch a m x → ¬ Reaches L takesAny x → m ≡ []

@@ -6,7 +6,7 @@ use mathlib.Core.List.{List, [], _∷_, _++_, cons≢nil, tail-eq-of-cons-eq}
 use mathlib.Core.Logic.{_↔_}
 use native.Mathlib.Omega.{arith}
 use Rattle.rules.specs.Items.{Item, element}
-use Rattle.rules.proofs.Booleans.{is-false}
+use Rattle.tables.proofs.Booleans.{is-false}
 use Rattle.rules.specs.Spans.{added, run}
 use Rattle.rules.proofs.Runs.{run-add}
 use Rattle.rules.proofs.Sequences.{Among, first, later, among-right, nothing-among, hasElement, element-among, among-element}

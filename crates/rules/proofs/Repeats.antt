@@ -12,7 +12,8 @@ use Rattle.schema.specs.Views as pattern
 use Rattle.relations.specs.Relations.{Plus, once, more}
 use Rattle.rules.specs.Items.{Item, Attributes, none, only, _∪_, Lookups}
 use Rattle.rules.specs.Rules.{Disjoint, Match, choice-1, choice-2, group, empty, text-1, text-2, oneOrMore-1, oneOrMore-2, interleave, attribute, element, value, data-1, data-2}
-use Rattle.rules.proofs.Booleans.{_∖_, or-either, and-left, no-member, ∖-only, one-and-rest, none-left, none-right}
+use Rattle.tables.proofs.Booleans.{or-either, and-left}
+use Rattle.rules.proofs.Booleans.{_∖_, no-member, ∖-only, one-and-rest, none-left, none-right}
 use Rattle.rules.proofs.Inversion.{cast}
 use Rattle.rules.proofs.Occurrences.{named}
 use Rattle.rules.specs.Reach.{Operand, repeated, choice-first, choice-second, Reaches, itself, down, namesAttribute}

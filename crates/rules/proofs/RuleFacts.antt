@@ -10,7 +10,7 @@ use Rattle.schema.specs.Views as pattern
 use Rattle.rules.specs.Items.{Item, string, Attributes, none, Lookups}
 use Rattle.rules.specs.Items as item
 use Rattle.rules.specs.Rules.{Interleaves, interleaves-1, interleaves-2, interleaves-3, ws-empty, ws-string, Match, WeakMatch, text-1, text-2, oneOrMore-1, oneOrMore-2, attribute, element, data-1, weak-match-3}
-use Rattle.rules.proofs.Booleans.{or-either}
+use Rattle.tables.proofs.Booleans.{or-either}
 use Rattle.rules.specs.Spans.{Paired}
 
 -- an item of the second side may come before one of the first

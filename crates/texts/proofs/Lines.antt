@@ -8,6 +8,7 @@ use native.Mathlib.Numerals.{add-one}
 use native.Mathlib.Nat.{zero-add, add-zero, add-comm, suc-mul, zero-mul, mul-le-mul-right}
 use lib.ListN.{length, take, drop}
 use lib.Seq.{drop-drop}
+use Rattle.tables.specs.Tables.{StringTable, Tables}
 use Rattle.strings.specs.Strings.{textOf}
 use Rattle.schema.specs.Rows.{rowsOf}
 use Rattle.instance.specs.Nodes.{nodesOf}
@@ -32,13 +33,13 @@ pub wrote-line : {out : List ℕ} {at : ℕ} (l : List ℕ) (lines : List (List 
 wrote-line l lines w v = wrote-as (append-assoc l (lineFeed ∷ []) (textOfLines lines)) (wrote-more w v)
 
 -- the lines of one more string
-pub strings-more : (bytes ends : List ℕ) (k n : ℕ) → stringLines bytes ends k (n + 1) ≡ stringLines bytes ends k n ++ (ascii "s=" ++ hexText (textOf bytes ends (k + n))) ∷ []
+pub strings-more : (T : StringTable) (k n : ℕ) → stringLines T k (n + 1) ≡ stringLines T k n ++ (ascii "s=" ++ hexText (textOf T (k + n))) ∷ []
 unfolding stringLines
-strings-more bytes ends k zero = rw (add-zero k)
-strings-more bytes ends k (suc n) =
+strings-more T k zero = rw (add-zero k)
+strings-more T k (suc n) =
     let e : suc n + 1 ≡ suc (n + 1) = omega arith in
     let f : suc k + n ≡ k + suc n = omega arith in
-    rw e (ap (λ r. (ascii "s=" ++ hexText (textOf bytes ends k)) ∷ r) (strings-more bytes ends (suc k) n ∙ ap (λ j. stringLines bytes ends (suc k) n ++ (ascii "s=" ++ hexText (textOf bytes ends j)) ∷ []) f))
+    rw e (ap (λ r. (ascii "s=" ++ hexText (textOf T k)) ∷ r) (strings-more T (suc k) n ∙ ap (λ j. stringLines T (suc k) n ++ (ascii "s=" ++ hexText (textOf T j)) ∷ []) f))
 
 -- the lines of one more row
 pub rows-more : (key : List ℕ) (width n : ℕ) (table : List ℕ) → rowLines key width (n + 1) table ≡ rowLines key width n table ++ (key ++ wordsText (take width (drop (n * width) table))) ∷ []
@@ -50,19 +51,19 @@ rows-more key width (suc n) table =
     rw e (ap (λ r. (key ++ wordsText (take width table)) ∷ r) (rows-more key width n (drop width table) ∙ ap (λ r. rowLines key width n (drop width table) ++ (key ++ wordsText (take width r)) ∷ []) f))
 
 -- no string, no row
-pub no-strings : (bytes ends : List ℕ) → textOfLines (stringLines bytes ends 0 0) ≡ []
+pub no-strings : (T : StringTable) → textOfLines (stringLines T 0 0) ≡ []
 unfolding stringLines
-no-strings bytes ends = refl
+no-strings T = refl
 
 pub no-rows : (key : List ℕ) (width : ℕ) (table : List ℕ) → textOfLines (rowLines key width 0 table) ≡ []
 unfolding rowLines
 no-rows key width table = refl
 
-pub wrote-string : {out : List ℕ} {at : ℕ} (bytes ends : List ℕ) (k : ℕ) {mid : List ℕ} {p : ℕ} {end : List ℕ} {q : ℕ}
-    → Wrote out at (textOfLines (stringLines bytes ends 0 k)) mid p → Wrote mid p ((ascii "s=" ++ hexText (textOf bytes ends k)) ++ lineFeed ∷ []) end q → Wrote out at (textOfLines (stringLines bytes ends 0 (k + 1))) end q
-wrote-string bytes ends k w v =
-    wrote-as (ap textOfLines (sym (strings-more bytes ends 0 k ∙ ap (λ j. stringLines bytes ends 0 k ++ (ascii "s=" ++ hexText (textOf bytes ends j)) ∷ []) (zero-add k))))
-    (wrote-lines (stringLines bytes ends 0 k) ((ascii "s=" ++ hexText (textOf bytes ends k)) ∷ []) w v)
+pub wrote-string : {out : List ℕ} {at : ℕ} (T : StringTable) (k : ℕ) {mid : List ℕ} {p : ℕ} {end : List ℕ} {q : ℕ}
+    → Wrote out at (textOfLines (stringLines T 0 k)) mid p → Wrote mid p ((ascii "s=" ++ hexText (textOf T k)) ++ lineFeed ∷ []) end q → Wrote out at (textOfLines (stringLines T 0 (k + 1))) end q
+wrote-string T k w v =
+    wrote-as (ap textOfLines (sym (strings-more T 0 k ∙ ap (λ j. stringLines T 0 k ++ (ascii "s=" ++ hexText (textOf T j)) ∷ []) (zero-add k))))
+    (wrote-lines (stringLines T 0 k) ((ascii "s=" ++ hexText (textOf T k)) ∷ []) w v)
 
 pub wrote-row : {out : List ℕ} {at : ℕ} (key : List ℕ) (width n : ℕ) (table : List ℕ) {mid : List ℕ} {p : ℕ} {end : List ℕ} {q : ℕ}
     → Wrote out at (textOfLines (rowLines key width n table)) mid p → Wrote mid p ((key ++ wordsText (take width (drop (n * width) table))) ++ lineFeed ∷ []) end q → Wrote out at (textOfLines (rowLines key width (n + 1) table)) end q
@@ -76,26 +77,26 @@ next-row i width = rw (add-one i) (suc-mul i width)
 pub rows-within : (i rows width : ℕ) → i < rows → i * width + width ≤ rows * width
 rows-within i rows width h = subst (λ k. k ≤ rows * width) (next-row i width) (mul-le-mul-right width (omega arith))
 
-pub wrote-job : {out : List ℕ} (bytes ends schema instance : List ℕ) {o₁ o₂ o₃ o₄ o₅ o₆ o₇ o₈ : List ℕ} {p₁ p₂ p₃ p₄ p₅ p₆ p₇ p₈ : ℕ}
+pub wrote-job : {out : List ℕ} (J : Tables) {o₁ o₂ o₃ o₄ o₅ o₆ o₇ o₈ : List ℕ} {p₁ p₂ p₃ p₄ p₅ p₆ p₇ p₈ : ℕ}
     → Wrote out 0 (ascii "rng=1" ++ lineFeed ∷ []) o₁ p₁
-    → Wrote o₁ p₁ ((ascii "strings=" ++ decimal (length ends)) ++ lineFeed ∷ []) o₂ p₂
-    → Wrote o₂ p₂ (textOfLines (stringLines bytes ends 0 (length ends))) o₃ p₃
-    → Wrote o₃ p₃ ((ascii "schema=" ++ decimal (rowsOf schema)) ++ lineFeed ∷ []) o₄ p₄
-    → Wrote o₄ p₄ (textOfLines (rowLines (ascii "row=") 3 (rowsOf schema) schema)) o₅ p₅
-    → Wrote o₅ p₅ ((ascii "instance=" ++ decimal (nodesOf instance)) ++ lineFeed ∷ []) o₆ p₆
-    → Wrote o₆ p₆ (textOfLines (rowLines (ascii "node=") 5 (nodesOf instance) instance)) o₇ p₇
+    → Wrote o₁ p₁ ((ascii "strings=" ++ decimal (length (J .strings .ends))) ++ lineFeed ∷ []) o₂ p₂
+    → Wrote o₂ p₂ (textOfLines (stringLines (J .strings) 0 (length (J .strings .ends)))) o₃ p₃
+    → Wrote o₃ p₃ ((ascii "schema=" ++ decimal (rowsOf (J .schema))) ++ lineFeed ∷ []) o₄ p₄
+    → Wrote o₄ p₄ (textOfLines (rowLines (ascii "row=") 3 (rowsOf (J .schema)) (J .schema))) o₅ p₅
+    → Wrote o₅ p₅ ((ascii "instance=" ++ decimal (nodesOf (J .instance))) ++ lineFeed ∷ []) o₆ p₆
+    → Wrote o₆ p₆ (textOfLines (rowLines (ascii "node=") 5 (nodesOf (J .instance)) (J .instance))) o₇ p₇
     → Wrote o₇ p₇ (ascii "end=1" ++ lineFeed ∷ []) o₈ p₈
-    → Wrote out 0 (jobText bytes ends schema instance) o₈ p₈
-wrote-job bytes ends schema instance a b c d e f g h =
-    let strings = (ascii "strings=" ++ decimal (length ends)) ∷ stringLines bytes ends 0 (length ends) in
-    let rows = (ascii "schema=" ++ decimal (rowsOf schema)) ∷ rowLines (ascii "row=") 3 (rowsOf schema) schema in
-    let nodes = (ascii "instance=" ++ decimal (nodesOf instance)) ∷ rowLines (ascii "node=") 5 (nodesOf instance) instance in
+    → Wrote out 0 (jobText J) o₈ p₈
+wrote-job J a b c d e f g h =
+    let strings = (ascii "strings=" ++ decimal (length (J .strings .ends))) ∷ stringLines (J .strings) 0 (length (J .strings .ends)) in
+    let rows = (ascii "schema=" ++ decimal (rowsOf (J .schema))) ∷ rowLines (ascii "row=") 3 (rowsOf (J .schema)) (J .schema) in
+    let nodes = (ascii "instance=" ++ decimal (nodesOf (J .instance))) ∷ rowLines (ascii "node=") 5 (nodesOf (J .instance)) (J .instance) in
     wrote-lines ((ascii "rng=1" ∷ strings) ++ rows ++ nodes) (ascii "end=1" ∷ [])
     (wrote-lines ((ascii "rng=1" ∷ strings) ++ rows) nodes
     (wrote-lines (ascii "rng=1" ∷ strings) rows
-    (wrote-line (ascii "rng=1") strings a (wrote-line (ascii "strings=" ++ decimal (length ends)) (stringLines bytes ends 0 (length ends)) b c))
-    (wrote-line (ascii "schema=" ++ decimal (rowsOf schema)) (rowLines (ascii "row=") 3 (rowsOf schema) schema) d e))
-    (wrote-line (ascii "instance=" ++ decimal (nodesOf instance)) (rowLines (ascii "node=") 5 (nodesOf instance) instance) f g))
+    (wrote-line (ascii "rng=1") strings a (wrote-line (ascii "strings=" ++ decimal (length (J .strings .ends))) (stringLines (J .strings) 0 (length (J .strings .ends))) b c))
+    (wrote-line (ascii "schema=" ++ decimal (rowsOf (J .schema))) (rowLines (ascii "row=") 3 (rowsOf (J .schema)) (J .schema)) d e))
+    (wrote-line (ascii "instance=" ++ decimal (nodesOf (J .instance))) (rowLines (ascii "node=") 5 (nodesOf (J .instance)) (J .instance)) f g))
     (wrote-line (ascii "end=1") [] h (wrote-none _ _))
 
 -- what `check` prints

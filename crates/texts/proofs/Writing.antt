@@ -9,7 +9,8 @@ use native.Mathlib.Numerals.{add-one}
 use lib.ListN.{length, take, drop, getD, set, length-append, length-take, length-drop, length-replicate}
 use lib.Seq.{sets, set-out, length-sets, take-suc, take-all, length-take-le, getD-take, getD-drop}
 use Rattle.tables.specs.Outputs.{zeros, laid}
-use Rattle.tables.proofs.Stores.{sets-append, sets-laid}
+use Rattle.tables.proofs.Stores.{sets-append, sets-zeros}
+use Rattle.tables.specs.Tables.{StringTable}
 use Rattle.strings.specs.Strings.{startOf, endOf, textOf}
 use borrow.Author.Tests.{eq-eqb, ne-eqb}
 use Rattle.jobs.specs.Numbers.{largestWord, decimal, wordText, wordsText, hexDigit, hexText}
@@ -52,7 +53,7 @@ text-in {text} {out} {mid} {end} {room} {n} {r} z w k = record { fits = fits; sh
         let s = size in
         let c = count in
         let q = k .fits (omega arith) in
-        (q .0 ∙ w .holds ∙ ap (λ (o : List ℕ). sets o 0 text) z ∙ sets-laid room text h, q .1 ∙ count)
+        (q .0 ∙ w .holds ∙ ap (λ (o : List ℕ). sets o 0 text) z ∙ sets-zeros room text, q .1 ∙ count)
 
     short : room < length text → (end ≡ zeros room) × (r ≡ 0)
     short h =
@@ -130,9 +131,11 @@ module _ (table : List ℕ) (first width : ℕ) (h : first + width ≤ length ta
       (wrote-more w v)
 
 -- no text is longer than all bytes
-pub text-length : (bytes ends : List ℕ) (k : ℕ) → length (textOf bytes ends k) ≤ length bytes
-text-length bytes ends k =
-    let d = length-drop (startOf ends k) bytes in
-    let t = length-take (endOf ends k - startOf ends k) (drop (startOf ends k) bytes) in
-    let m = min-le-right (endOf ends k - startOf ends k) (length (drop (startOf ends k) bytes)) in
+pub text-length : (T : StringTable) (k : ℕ) → length (textOf T k) ≤ length (T .bytes)
+text-length T k =
+    let from = startOf (T .ends) k in
+    let size = endOf (T .ends) k - startOf (T .ends) k in
+    let d = length-drop from (T .bytes) in
+    let t = length-take size (drop from (T .bytes)) in
+    let m = min-le-right size (length (drop from (T .bytes))) in
     rw t (le-trans m (omega arith))

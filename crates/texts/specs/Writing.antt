@@ -5,12 +5,12 @@ use mathlib.Core.List.{List}
 use lib.ListN.{length}
 use Rattle.tables.specs.Outputs.{zeros, laid}
 use lib.Seq.{sets}
+use Rattle.tables.specs.Tables.{Tables}
 use Rattle.strings.specs.Strings.{maxStrings, maxBytes}
 use Rattle.schema.specs.Rows.{rowsOf}
 use Rattle.schema.specs.RowRule.{maxRows}
 use Rattle.instance.specs.Nodes.{nodesOf}
 use Rattle.instance.specs.NodeRule.{maxNodes}
-use Rattle.jobs.specs.Written.{jobText}
 
 pub record Wrote (before : List ℕ) (at : ℕ) (text : List ℕ) (after : List ℕ) (next : ℕ) : Type 0 where
   pub holds : after ≡ sets before at text
@@ -21,17 +21,13 @@ abbrev pub far : ℕ
 far = 4294967296
 
 -- the tables that are written keep their limits
-pub record Sized (bytes ends schema instance : List ℕ) : Type 0 where
-  pub few-bytes : length bytes ≤ maxBytes
-  pub few-strings : length ends ≤ maxStrings
-  pub few-rows : rowsOf schema ≤ maxRows
-  pub whole-rows : length schema % 3 ≡ 0
-  pub few-nodes : nodesOf instance ≤ maxNodes
-  pub whole-nodes : length instance % 5 ≡ 0
-
--- the whole text of tables that keep their limits
-abbrev pub PutsJob : List ℕ → List ℕ → List ℕ → List ℕ → List ℕ → List ℕ → ℕ → Type 0
-PutsJob bytes ends schema instance out out′ r = Sized bytes ends schema instance → Wrote out 0 (jobText bytes ends schema instance) out′ r
+pub record Sized (J : Tables) : Type 0 where
+  pub few-bytes : length (J .strings .bytes) ≤ maxBytes
+  pub few-strings : length (J .strings .ends) ≤ maxStrings
+  pub few-rows : rowsOf (J .schema) ≤ maxRows
+  pub whole-rows : length (J .schema) % 3 ≡ 0
+  pub few-nodes : nodesOf (J .instance) ≤ maxNodes
+  pub whole-nodes : length (J .instance) % 5 ≡ 0
 
 -- a text of so many bytes was put; it stays where it fits, and is taken back to zeros where it does not
 pub record Kept (before : List ℕ) (n : ℕ) (after : List ℕ) (r : ℕ) : Type 0 where

@@ -3,14 +3,14 @@ ghost use mathlib.Core.Path.{_≡_};
 ghost use mathlib.Core.List.{[], _∷_, _++_};
 ghost use Prim.Native.Nat.{_+_, _*_, _%_, _≤_, _<_};
 ghost use lib.ListN.{length, take, drop};
-ghost use Rattle.tables.specs.Answers.{Decides};
+ghost use Rattle.tables.specs.Tables.{stringTable, tablesOf};
 ghost use Rattle.strings.specs.Strings.{textOf, maxStrings, maxBytes};
 ghost use Rattle.jobs.specs.Ascii.{ascii};
 ghost use Rattle.jobs.specs.Lines.{lineFeed, textOfLines};
 ghost use Rattle.jobs.specs.Numbers.{decimal, wordText, wordsText, hexDigit, hexText};
 ghost use Rattle.jobs.specs.Written.{stringLines, rowLines, jobText};
 ghost use Rattle.jobs.specs.Reported.{validLine, matchText, refusalText};
-ghost use Rattle.texts.specs.Writing.{Wrote, far, Sized, PutsJob, Kept, TextIn};
+ghost use Rattle.texts.specs.Writing.{Wrote, far, Sized, Kept, TextIn};
 
 // A byte; past the end of the output it is counted and not stored.
 fn put(out: &mut [u8], at: usize, b: u8) -> usize
@@ -104,7 +104,7 @@ fn put_words(out: &mut [u8], at: usize, table: &[u32], first: usize, width: usiz
 // The line of a string.
 fn put_string(out: &mut [u8], at: usize, bytes: &[u8], ends: &[u32], k: usize) -> usize
     requires { ⌜ (length (now bytes) ≤ maxBytes) × (at + 40000 < far) ⌝ }
-    ensures { λ r. ⌜ Wrote (now (out .entry)) at ((ascii "s=" ++ hexText (textOf (now (bytes .entry)) (now (ends .entry)) k)) ++ lineFeed ∷ []) (now (out .exit)) r ⌝ }
+    ensures { λ r. ⌜ Wrote (now (out .entry)) at ((ascii "s=" ++ hexText (textOf (stringTable (now (bytes .entry)) (now (ends .entry))) k)) ++ lineFeed ∷ []) (now (out .exit)) r ⌝ }
     ensures near { λ r. ⌜ r ≤ at + 40000 ⌝ }
 {
     let p = put_text(out, at, b"s=");
@@ -115,7 +115,7 @@ fn put_string(out: &mut [u8], at: usize, bytes: &[u8], ends: &[u32], k: usize) -
 // The lines of all strings.
 fn put_strings(out: &mut [u8], at: usize, bytes: &[u8], ends: &[u32]) -> usize
     requires { ⌜ (length (now bytes) ≤ maxBytes) × (length (now ends) ≤ maxStrings) × (at ≤ 100) ⌝ }
-    ensures { λ r. ⌜ Wrote (now (out .entry)) at (textOfLines (stringLines (now (bytes .entry)) (now (ends .entry)) 0 (length (now (ends .entry))))) (now (out .exit)) r ⌝ }
+    ensures { λ r. ⌜ Wrote (now (out .entry)) at (textOfLines (stringLines (stringTable (now (bytes .entry)) (now (ends .entry))) 0 (length (now (ends .entry))))) (now (out .exit)) r ⌝ }
     ensures near { λ r. ⌜ r ≤ 100 + 40000 * maxStrings ⌝ }
 {
     let mut k = 0;
@@ -180,10 +180,16 @@ fn put_rows(
     p
 }
 
-// The parts of a job, one after the other.
-fn put_parts(out: &mut [u8], bytes: &[u8], ends: &[u32], schema: &[u32], instance: &[u32]) -> usize
-    requires { ⌜ Sized (now bytes) (now ends) (now schema) (now instance) ⌝ }
-    ensures { λ r. ⌜ Wrote (now (out .entry)) 0 (jobText (now (bytes .entry)) (now (ends .entry)) (now (schema .entry)) (now (instance .entry))) (now (out .exit)) r ⌝ }
+// The whole text of a job whose tables keep their limits; the position after it.
+pub fn put_job(
+    out: &mut [u8],
+    bytes: &[u8],
+    ends: &[u32],
+    schema: &[u32],
+    instance: &[u32],
+) -> usize
+    requires { ⌜ Sized (tablesOf (stringTable (now bytes) (now ends)) (now schema) (now instance)) ⌝ }
+    ensures { λ r. ⌜ Wrote (now (out .entry)) 0 (jobText (tablesOf (stringTable (now (bytes .entry)) (now (ends .entry))) (now (schema .entry)) (now (instance .entry)))) (now (out .exit)) r ⌝ }
 {
     let rows = schema.len() / 3;
     let nodes = instance.len() / 5;
@@ -195,47 +201,6 @@ fn put_parts(out: &mut [u8], bytes: &[u8], ends: &[u32], schema: &[u32], instanc
     let p5 = put_count(out, p4, b"instance=", nodes as u32);
     let p6 = put_rows(out, p5, b"node=", instance, 5, nodes);
     put_text(out, p6, b"end=1\n")
-}
-
-// Whether the tables keep their limits.
-fn keeps_limits(bytes: &[u8], ends: &[u32], schema: &[u32], instance: &[u32]) -> bool
-    ensures { λ r. ⌜ Decides (Sized (now (bytes .entry)) (now (ends .entry)) (now (schema .entry)) (now (instance .entry))) r ⌝ }
-{
-    if strings::MAX_BYTES < bytes.len() {
-        return false;
-    }
-    if strings::MAX_STRINGS < ends.len() {
-        return false;
-    }
-    if schema::MAX_ROWS < schema.len() / 3 {
-        return false;
-    }
-    if schema.len() % 3 != 0 {
-        return false;
-    }
-    if instance::MAX_NODES < instance.len() / 5 {
-        return false;
-    }
-    if instance.len() % 5 != 0 {
-        return false;
-    }
-    true
-}
-
-// The whole text of a job whose tables keep their limits, and nothing otherwise; the position after it.
-pub fn put_job(
-    out: &mut [u8],
-    bytes: &[u8],
-    ends: &[u32],
-    schema: &[u32],
-    instance: &[u32],
-) -> usize
-    ensures { λ r. ⌜ PutsJob (now (bytes .entry)) (now (ends .entry)) (now (schema .entry)) (now (instance .entry)) (now (out .entry)) (now (out .exit)) r ⌝ }
-{
-    if keeps_limits(bytes, ends, schema, instance) {
-        return put_parts(out, bytes, ends, schema, instance);
-    }
-    0
 }
 
 // The line of the verdict.
@@ -274,30 +239,25 @@ fn put_refusal(out: &mut [u8], code: u32, place: u32) -> usize
 }
 
 // The length of a text that was put, or 0 with the output zeroed where it is too short for the text.
-fn kept(out: &mut [u8], length: usize) -> u32
-    requires { ⌜ length ≤ 820000 ⌝ }
-    ensures { λ r. ⌜ Kept (now (out .entry)) length (now (out .exit)) r ⌝ }
+fn kept(out: &mut [u8], size: usize) -> u32
+    requires { ⌜ size ≤ 820000 ⌝ }
+    ensures { λ r. ⌜ Kept (now (out .entry)) size (now (out .exit)) r ⌝ }
 {
-    if out.len() < length {
+    if out.len() < size {
         tables::zero_u8(out);
         return 0;
     }
-    length as u32
+    size as u32
 }
 
-// What `check` prints for a match list of at most 8,192 pairs, whose words are lent; of another nothing is written.
+// What `check` prints for a match list of at most 8,192 pairs, whose words are lent.
 pub fn write_matches(valid: bool, list: &[u32], out: &mut [u8]) -> u32
-    ensures { λ r. ⌜ (length (now (list .entry)) ≤ 16384 → length (now (list .entry)) % 2 ≡ 0 → TextIn (matchText valid (now (list .entry))) (length (now (out .entry))) (now (out .exit)) r) ⌝ }
+    requires { ⌜ (length (now list) ≤ 16384) × (length (now list) % 2 ≡ 0) ⌝ }
+    ensures { λ r. ⌜ TextIn (matchText valid (now (list .entry))) (length (now (out .entry))) (now (out .exit)) r ⌝ }
 {
     tables::zero_u8(out);
-    if 16384 < list.len() {
-        return 0;
-    }
-    if list.len() % 2 != 0 {
-        return 0;
-    }
-    let length = put_matches(out, valid, list);
-    kept(out, length)
+    let size = put_matches(out, valid, list);
+    kept(out, size)
 }
 
 // What `check` prints for a refusal.
@@ -305,6 +265,6 @@ pub fn write_refusal(code: u32, place: u32, out: &mut [u8]) -> u32
     ensures { λ r. ⌜ TextIn (refusalText code place) (length (now (out .entry))) (now (out .exit)) r ⌝ }
 {
     tables::zero_u8(out);
-    let length = put_refusal(out, code, place);
-    kept(out, length)
+    let size = put_refusal(out, code, place);
+    kept(out, size)
 }

@@ -12,7 +12,7 @@ ghost use Rattle.tables.specs.Answers.{Finds};
 ghost use Rattle.tables.specs.Outputs.{zeros};
 ghost use Rattle.instance.specs.Nodes.{nodesOf, isChild, isAttribute, element};
 ghost use Rattle.instance.specs.NodeRule.{maxNodes};
-ghost use Rattle.instance.specs.Width.{maxWidth, WidthFault, FindsWidth};
+ghost use Rattle.instance.specs.Width.{maxWidth, WidthFault};
 ghost use Rattle.width.specs.Counts.{Counts, Low, Added};
 
 // One more at place x of the counts, where it is wanted and in the table.
@@ -72,13 +72,11 @@ fn first_wide(instance: &[u32], attributes: &[u32], children: &[u32]) -> Checked
     Checked::Fine
 }
 
-// Code 10: the first element with too many attributes or children; row 0 where there are more rows than a table may have.
+// Code 10: the first element with too many attributes or children, of a table that has no more rows than it may.
 pub fn check_width(instance: &[u32]) -> Checked
-    ensures { λ r. ⌜ FindsWidth (now (instance .entry)) r ⌝ }
+    requires { ⌜ nodesOf (now instance) ≤ maxNodes ⌝ }
+    ensures { λ r. ⌜ Finds (WidthFault (now (instance .entry))) r ⌝ }
 {
-    if MAX_NODES < instance.len() / 5 {
-        return Checked::Fault(0);
-    }
     let mut attributes = [0u32; MAX_NODES];
     let mut children = [0u32; MAX_NODES];
     count_rows(instance, &mut attributes, &mut children);

@@ -1,10 +1,9 @@
--- The answer of a refusal; cited by private functions only.
-use Rattle.tables.specs.declared.Verdict.{Verdict}
-use Rattle.tables.specs.declared.Verdict.the-variants.{Passed, Refused}
-use Rattle.writer.specs.declared.JobWritten.{JobWritten}
-use Rattle.writer.specs.declared.JobWritten.the-variants.{NotWritten}
+-- The place of a fault; cited by private functions only.
+use Prim.Native.Nat.{ℕ}
+use Rattle.tables.specs.declared.Checked.{Checked}
+use Rattle.tables.specs.declared.Checked.the-variants.{Fine, Fault}
 
--- a verdict that refuses nothing is never asked
-abbrev pub notWritten : Verdict → JobWritten
-notWritten Passed = NotWritten 0 0
-notWritten (Refused code place) = NotWritten code place
+-- 0 where a check found none
+abbrev pub faultPlace : Checked → ℕ
+faultPlace Fine = 0
+faultPlace (Fault place) = place

@@ -1,13 +1,14 @@
 // The writer of job files.
 use tables::Checked;
-use tables::Verdict;
 ghost use mathlib.Core.Path.{_≡_};
 ghost use Prim.Native.Nat.{_<_};
 ghost use lib.ListN.{length};
 ghost use Rattle.tables.specs.Answers.{Finds};
 ghost use Rattle.tables.specs.Outputs.{zeros};
+ghost use Rattle.tables.specs.Tables.{stringTable, tablesOf};
 ghost use Rattle.writer.specs.Promises.{TableFault, WriteJob};
-ghost use Rattle.writer.specs.Refused.{notWritten};
+ghost use Rattle.writer.specs.Refused.{faultPlace};
+ghost use Rattle.writer.specs.declared.JobWritten.the-variants.{NotWritten};
 
 // How long the text of a job is, or the refusal with its code and place.
 pub enum JobWritten {
@@ -29,16 +30,23 @@ fn check_table(table: &[u32], width: usize, limit: usize) -> Checked
     Checked::Fine
 }
 
-// The answer of a refusal, with the output zeroed.
-fn refuse(out: &mut [u8], verdict: Verdict) -> JobWritten
-    ensures { λ r. ⌜ r ≡ notWritten verdict ⌝ }
+// The place of the fault that a check found, 0 where it found none.
+fn place_of(checked: Checked) -> u32
+    ensures { λ r. ⌜ r ≡ faultPlace checked ⌝ }
+{
+    match checked {
+        Checked::Fine => 0,
+        Checked::Fault(place) => place,
+    }
+}
+
+// A refusal, with the output zeroed.
+fn refuse(out: &mut [u8], code: u32, place: u32) -> JobWritten
+    ensures { λ r. ⌜ r ≡ NotWritten code place ⌝ }
     ensures zeroed { λ _. ⌜ now (out .exit) ≡ zeros (length (now (out .entry))) ⌝ }
 {
     tables::zero_u8(out);
-    match verdict {
-        Verdict::Passed => JobWritten::NotWritten(0, 0),
-        Verdict::Refused(code, place) => JobWritten::NotWritten(code, place),
-    }
+    JobWritten::NotWritten(code, place)
 }
 
 // The four tables of a job as text in a lent output: codes 1, 2, 9 and 12.
@@ -49,27 +57,27 @@ pub fn write_job(
     instance: &[u32],
     out: &mut [u8],
 ) -> JobWritten
-    ensures { λ r. ⌜ WriteJob (now (bytes .entry)) (now (ends .entry)) (now (schema .entry)) (now (instance .entry)) (length (now (out .entry))) (now (out .exit)) r ⌝ }
+    ensures { λ r. ⌜ WriteJob (tablesOf (stringTable (now (bytes .entry)) (now (ends .entry))) (now (schema .entry)) (now (instance .entry))) (length (now (out .entry))) (now (out .exit)) r ⌝ }
 {
     let strings = strings::check_strings(bytes, ends);
     let Checked::Fine = strings else {
-        return refuse(out, tables::refusal(1, strings));
+        return refuse(out, 1, place_of(strings));
     };
-    let rows = check_table(schema, 3, 512);
+    let rows = check_table(schema, 3, schema::MAX_ROWS);
     let Checked::Fine = rows else {
-        return refuse(out, tables::refusal(2, rows));
+        return refuse(out, 2, place_of(rows));
     };
-    let nodes = check_table(instance, 5, 1024);
+    let nodes = check_table(instance, 5, instance::MAX_NODES);
     let Checked::Fine = nodes else {
-        return refuse(out, tables::refusal(9, nodes));
+        return refuse(out, 9, place_of(nodes));
     };
     tables::zero_u8(out);
-    let length = texts::put_job(out, bytes, ends, schema, instance);
-    if 65536 < length {
-        return refuse(out, Verdict::Refused(12, 0));
+    let size = texts::put_job(out, bytes, ends, schema, instance);
+    if jobs::MAX_FILE < size {
+        return refuse(out, 12, 0);
     }
-    if out.len() < length {
-        return refuse(out, Verdict::Refused(12, 0));
+    if out.len() < size {
+        return refuse(out, 12, 0);
     }
-    JobWritten::Written(length as u32)
+    JobWritten::Written(size as u32)
 }

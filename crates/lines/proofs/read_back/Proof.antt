@@ -4,7 +4,7 @@ use native.Mathlib.Omega.{arith}
 use lib.ListN.{drop}
 use borrow.Author.Needs.{needs}
 use Rattle.jobs.specs.Lines.{linesOf}
-use Rattle.lines.specs.Steps.{stoppedBy}
+use Rattle.lines.specs.Steps.{lineOf}
 use Rattle.lines.proofs.Whole.{back-no-rows, back-no-nodes, back-no-end, back-done}
 use Rattle.lines.proofs.read_back.Statement.{statement}
 use Rattle.lines.proofs.read_back.Tie as tie
@@ -24,8 +24,8 @@ enum-known-rows c = search needs
 enum-told : tie.Need-enum-told
 enum-told c = search needs
 
-stopped-requires : tie.Need-stopped-requires
-stopped-requires c κs = search needs
+line-of-requires : tie.Need-line-of-requires
+line-of-requires c κs = search needs
 
 same-length : tie.Need-same-length
 same-length c = search needs
@@ -34,7 +34,7 @@ returns : tie.Need-returns
 returns c =
     let args = c .before .before .before .before .before .before .before .before .before .before .before .before .args in
     let read-table = c .before .before .before .before .before .read-table in
-    rw (c .stopped .ensures ∙ ap stoppedBy (c .before .enum-told .given .1)) (back-no-rows (args .file .now) (args .line) (linesOf (drop (args .at) (args .file .now))) (rw (c .before .enum-told .given .1) at (read-table .ensures)))
+    rw (c .line-of .ensures ∙ ap lineOf (c .before .enum-told .given .1)) (back-no-rows (args .file .now) (args .line) (linesOf (drop (args .at) (args .file .now))) (rw (c .before .enum-told .given .1) at (read-table .ensures)))
 
 slice-aggregate-read-table-3 : tie.Need-slice-aggregate-read-table-3
 slice-aggregate-read-table-3 c = search needs
@@ -55,8 +55,8 @@ enum-known-nodes c = search needs
 enum-told-2 : tie.Need-enum-told-2
 enum-told-2 c = search needs
 
-stopped-requires-2 : tie.Need-stopped-requires-2
-stopped-requires-2 c κs = search needs
+line-of-requires-2 : tie.Need-line-of-requires-2
+line-of-requires-2 c κs = search needs
 
 same-length-2 : tie.Need-same-length-2
 same-length-2 c = search needs
@@ -70,7 +70,7 @@ returns-2 c =
     let read-table = c .before .before .before .before .before .before .before .before .before .before .before .before .before .before .read-table in
     let rows = c .before .before .before .before .before .before .before .before .before .before .rows in
     let read-table2 = c .before .before .before .before .before .read-table2 in
-    rw (c .stopped2 .ensures ∙ ap stoppedBy (c .before .enum-told2 .given .1)) (back-no-nodes (args .file .now) (args .line) (linesOf (drop (args .at) (args .file .now))) (rw (rows .given .1) at (read-table .ensures)) (rw (c .before .enum-told2 .given .1) at (read-table2 .ensures)))
+    rw (c .line-of2 .ensures ∙ ap lineOf (c .before .enum-told2 .given .1)) (back-no-nodes (args .file .now) (args .line) (linesOf (drop (args .at) (args .file .now))) (rw (rows .given .1) at (read-table .ensures)) (rw (c .before .enum-told2 .given .1) at (read-table2 .ensures)))
 
 end-line-requires : tie.Need-end-line-requires
 end-line-requires c κs =
@@ -127,7 +127,7 @@ read-back-spec =
     read-table-requires
     enum-known-rows
     enum-told
-    stopped-requires
+    line-of-requires
     same-length
     returns
     slice-aggregate-read-table-3
@@ -135,7 +135,7 @@ read-back-spec =
     read-table-requires-2
     enum-known-nodes
     enum-told-2
-    stopped-requires-2
+    line-of-requires-2
     same-length-2
     same-length-3
     returns-2

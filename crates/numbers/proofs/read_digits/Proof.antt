@@ -5,6 +5,7 @@ use native.Mathlib.Omega.{arith}
 use lib.ListN.{drop-of-length-le, length, drop, getD}
 use borrow.Author.Needs.{needs}
 use Rattle.jobs.specs.Numbers.{largestNumber}
+use Rattle.tables.proofs.Parts.{drop-one}
 use Rattle.numbers.proofs.Digits as laws
 use Rattle.numbers.specs.Answers.{asNumber, digitsOf}
 use Rattle.numbers.proofs.read_digits.Statement.{statement}
@@ -26,13 +27,13 @@ returns : tie.Need-returns Inv-loop μ-loop
 returns c =
     let args = c .before .before .before .before .args in
     let loop = c .before .before .before .loop in
-    sym (ap asNumber (loop .inv .1 ∙ ap (digitsOf (loop .value)) (laws.drop-one (args .text .now) (loop .i) (omega arith)) ∙ laws.digits-low (loop .value) (getD (args .text .now) (loop .i) 0) (drop (loop .i + 1) (args .text .now)) (c .if1 .taken)))
+    sym (ap asNumber (loop .inv .1 ∙ ap (digitsOf (loop .value)) (drop-one (args .text .now) (loop .i) (omega arith)) ∙ laws.digits-low (loop .value) (getD (args .text .now) (loop .i) 0) (drop (loop .i + 1) (args .text .now)) (c .if1 .taken)))
 
 returns-2 : tie.Need-returns-2 Inv-loop μ-loop
 returns-2 c =
     let args = c .before .before .before .before .before .args in
     let loop = c .before .before .before .before .loop in
-    sym (ap asNumber (loop .inv .1 ∙ ap (digitsOf (loop .value)) (laws.drop-one (args .text .now) (loop .i) (omega arith)) ∙ laws.digits-high (loop .value) (getD (args .text .now) (loop .i) 0) (drop (loop .i + 1) (args .text .now)) (c .if2 .taken)))
+    sym (ap asNumber (loop .inv .1 ∙ ap (digitsOf (loop .value)) (drop-one (args .text .now) (loop .i) (omega arith)) ∙ laws.digits-high (loop .value) (getD (args .text .now) (loop .i) 0) (drop (loop .i + 1) (args .text .now)) (c .if2 .taken)))
 
 mul-value : tie.Need-mul-value Inv-loop μ-loop
 mul-value c = omega arith
@@ -51,7 +52,7 @@ returns-3 : tie.Need-returns-3 Inv-loop μ-loop
 returns-3 c =
     let args = c .before .before .before .before .before .before .args in
     let loop = c .before .before .before .before .before .loop in
-    sym (ap asNumber (loop .inv .1 ∙ ap (digitsOf (loop .value)) (laws.drop-one (args .text .now) (loop .i) (omega arith)) ∙ laws.digits-more (loop .value) (getD (args .text .now) (loop .i) 0) (drop (loop .i + 1) (args .text .now)) (c .before .before .if1 .left) (c .before .if2 .left) ∙ laws.digits-over _ (drop (loop .i + 1) (args .text .now)) (c .if3 .taken)))
+    sym (ap asNumber (loop .inv .1 ∙ ap (digitsOf (loop .value)) (drop-one (args .text .now) (loop .i) (omega arith)) ∙ laws.digits-more (loop .value) (getD (args .text .now) (loop .i) 0) (drop (loop .i + 1) (args .text .now)) (c .before .before .if1 .left) (c .before .if2 .left) ∙ laws.digits-over _ (drop (loop .i + 1) (args .text .now)) (c .if3 .taken)))
 
 add-i : tie.Need-add-i Inv-loop μ-loop
 add-i c = omega arith
@@ -63,7 +64,7 @@ loop-again : tie.Need-loop-again Inv-loop μ-loop
 loop-again c =
     let args = c .before .before .before .before .before .before .args in
     let loop = c .before .before .before .before .before .loop in
-    (c .if3 .left, loop .inv .1 ∙ ap (digitsOf (loop .value)) (laws.drop-one (args .text .now) (loop .i) (omega arith)) ∙ laws.digits-more (loop .value) (getD (args .text .now) (loop .i) 0) (drop (loop .i + 1) (args .text .now)) (c .before .before .if1 .left) (c .before .if2 .left))
+    (c .if3 .left, loop .inv .1 ∙ ap (digitsOf (loop .value)) (drop-one (args .text .now) (loop .i) (omega arith)) ∙ laws.digits-more (loop .value) (getD (args .text .now) (loop .i) 0) (drop (loop .i + 1) (args .text .now)) (c .before .before .if1 .left) (c .before .if2 .left))
 
 cast-t11 : tie.Need-cast-t11 Inv-loop μ-loop
 cast-t11 c = omega arith

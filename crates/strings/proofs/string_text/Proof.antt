@@ -4,7 +4,10 @@ use Prim.Native.Nat.{suc, _-_}
 use native.Mathlib.Omega.{arith}
 use lib.ListN.{length}
 use borrow.Author.Needs.{needs}
+use native.Mathlib.Nat.{le-trans}
 use Rattle.tables.proofs.Answers.{found-none, found-at}
+use Rattle.tables.proofs.Parts.{in-order}
+use Rattle.strings.specs.Strings.{startOf, endOf}
 use Rattle.strings.proofs.Table.{ends-of, start-before-end, end-within}
 use Rattle.strings.proofs.string_text.Statement.{statement}
 use Rattle.strings.proofs.string_text.Tie as tie
@@ -37,7 +40,11 @@ returns-3 : tie.Need-returns-3
 returns-3 c =
     let a = c .before .before .before .before .before .before .before .args in
     record {
-      in-table = λ right h. c .text .ensures .lies (start-before-end (ends-of right) (a .k) h) (end-within (ends-of right) (length (a .ends .now) - suc (a .k)) (a .k) (omega arith));
+      in-table = λ right h. (
+          let below = start-before-end (ends-of right) (a .k) h in
+          let within = end-within (ends-of right) (length (a .ends .now) - suc (a .k)) (a .k) (omega arith) in
+          rw (in-order (a .bytes .now) (startOf (a .ends .now) (a .k)) (endOf (a .ends .now) (a .k)) below (le-trans below within)) at (c .text .ensures .lies)
+          );
       not-in-table = λ h. absurd (omega arith);
       rule-broken = λ place f. absurd (found-none _ (c .before .before .before .before .check-strings .ensures) (c .before .before .enum-told .given .1) place f);
     }

@@ -1,11 +1,9 @@
+-- A text that does not fit is taken back.
 use native.Mathlib.Omega.{arith}
 use mathlib.Core.Path.{refl}
 use borrow.Author.Needs.{needs}
 use Rattle.texts.proofs.kept.Statement.{statement}
 use Rattle.texts.proofs.kept.Tie as tie
-use Rattle.texts.proofs.kept.Reads as reads
-use Rattle.texts.proofs.kept.Lts as lts
-use Rattle.tables.proofs.zero_u8.Reads as zero-u8-reads
 
 zero-u8-requires : tie.Need-zero-u8-requires
 zero-u8-requires c κs = search needs

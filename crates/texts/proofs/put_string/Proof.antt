@@ -4,6 +4,7 @@ use Rattle.texts.proofs.Writing.{wrote-more, wrote-as, hex-length, text
 use Rattle.texts.proofs.put_string.Statement.{statement}
 use Rattle.texts.proofs.put_string.Tie as tie
 use borrow.Author.Needs.{needs}
+use Rattle.tables.specs.Tables.{stringTable}
 use denote.Ref.{now}
 use lib.ListN.{length}
 use mathlib.Core.Path.{ap}
@@ -19,16 +20,16 @@ text-requires : tie.Need-text-requires
 text-requires c κs = search needs
 
 put-hex-requires : tie.Need-put-hex-requires
-put-hex-requires c κs = let e = c .before .before .before .before .put-text .ensures .moves in let h = ap length (c .text .ensures .holds) in let t = text-length (now (c .before .before .before .before .before .before .before .before .before .before .args .bytes)) (now (c .before .before .before .before .before .before .before .before .before .before .args .ends)) (c .before .before .before .before .before .before .before .before .before .before .args .k) in omega arith
+put-hex-requires c κs = let e = c .before .before .before .before .put-text .ensures .moves in let h = ap length (c .text .ensures .holds) in let t = text-length (stringTable (now (c .before .before .before .before .before .before .before .before .before .before .args .bytes)) (now (c .before .before .before .before .before .before .before .before .before .before .args .ends))) (c .before .before .before .before .before .before .before .before .before .before .args .k) in omega arith
 
 put-requires : tie.Need-put-requires
-put-requires c κs = let e = c .before .before .before .before .before .before .before .before .put-text .ensures .moves in let h = ap length (c .before .before .before .before .text .ensures .holds) in let t = text-length (now (c .before .before .before .before .before .before .before .before .before .before .before .before .before .before .args .bytes)) (now (c .before .before .before .before .before .before .before .before .before .before .before .before .before .before .args .ends)) (c .before .before .before .before .before .before .before .before .before .before .before .before .before .before .args .k) in let f = c .before .before .before .put-hex .ensures .moves in let g = hex-length (now (c .before .before .before .before .text .result)) in omega arith
+put-requires c κs = let e = c .before .before .before .before .before .before .before .before .put-text .ensures .moves in let h = ap length (c .before .before .before .before .text .ensures .holds) in let t = text-length (stringTable (now (c .before .before .before .before .before .before .before .before .before .before .before .before .before .before .args .bytes)) (now (c .before .before .before .before .before .before .before .before .before .before .before .before .before .before .args .ends))) (c .before .before .before .before .before .before .before .before .before .before .before .before .before .before .args .k) in let f = c .before .before .before .put-hex .ensures .moves in let g = hex-length (now (c .before .before .before .before .text .result)) in omega arith
 
 same-length : tie.Need-same-length
 same-length c = search needs
 
 returns : tie.Need-returns
-returns c = let e = c .before .before .before .before .before .before .before .before .before .before .before .put-text .ensures .moves in let h = ap length (c .before .before .before .before .before .before .before .text .ensures .holds) in let t = text-length (now (c .before .before .before .before .before .before .before .before .before .before .before .before .before .before .before .before .before .args .bytes)) (now (c .before .before .before .before .before .before .before .before .before .before .before .before .before .before .before .before .before .args .ends)) (c .before .before .before .before .before .before .before .before .before .before .before .before .before .before .before .before .before .args .k) in let f = c .before .before .before .before .before .before .put-hex .ensures .moves in let g = hex-length (now (c .before .before .before .before .before .before .before .text .result)) in let k = c .before .before .put .ensures .moves in (wrote-more (wrote-more (c .before .before .before .before .before .before .before .before .before .before .before .put-text .ensures) (wrote-as (ap hexText (c .before .before .before .before .before .before .before .text .ensures .holds)) (c .before .before .before .before .before .before .put-hex .ensures))) (c .before .before .put .ensures), omega arith)
+returns c = let e = c .before .before .before .before .before .before .before .before .before .before .before .put-text .ensures .moves in let h = ap length (c .before .before .before .before .before .before .before .text .ensures .holds) in let t = text-length (stringTable (now (c .before .before .before .before .before .before .before .before .before .before .before .before .before .before .before .before .before .args .bytes)) (now (c .before .before .before .before .before .before .before .before .before .before .before .before .before .before .before .before .before .args .ends))) (c .before .before .before .before .before .before .before .before .before .before .before .before .before .before .before .before .before .args .k) in let f = c .before .before .before .before .before .before .put-hex .ensures .moves in let g = hex-length (now (c .before .before .before .before .before .before .before .text .result)) in let k = c .before .before .put .ensures .moves in (wrote-more (wrote-more (c .before .before .before .before .before .before .before .before .before .before .before .put-text .ensures) (wrote-as (ap hexText (c .before .before .before .before .before .before .before .text .ensures .holds)) (c .before .before .before .before .before .before .put-hex .ensures))) (c .before .before .put .ensures), omega arith)
 
 pub put-string-spec : {M : Type 1} → statement M
 put-string-spec =

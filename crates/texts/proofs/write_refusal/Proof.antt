@@ -1,12 +1,8 @@
+-- The text is put into zeros, and kept where it fits.
 use Rattle.texts.proofs.Writing.{text-in}
 use borrow.Author.Needs.{needs}
 use Rattle.texts.proofs.write_refusal.Statement.{statement}
 use Rattle.texts.proofs.write_refusal.Tie as tie
-use Rattle.texts.proofs.write_refusal.Reads as reads
-use Rattle.texts.proofs.write_refusal.Lts as lts
-use Rattle.tables.proofs.zero_u8.Reads as zero-u8-reads
-use Rattle.texts.proofs.kept.Reads as kept-reads
-use Rattle.texts.proofs.put_refusal.Reads as put-refusal-reads
 
 zero-u8-requires : tie.Need-zero-u8-requires
 zero-u8-requires c κs = search needs

@@ -3,8 +3,8 @@ use mathlib.Core.Path.{sym, _∙_}
 use lib.ListN.{length}
 use borrow.Author.Needs.{needs}
 use Rattle.tables.proofs.Fill.{laid-none}
-use Rattle.reader.proofs.zero_outputs.Statement.{statement}
-use Rattle.reader.proofs.zero_outputs.Tie as tie
+use Rattle.lines.proofs.zero_outputs.Statement.{statement}
+use Rattle.lines.proofs.zero_outputs.Tie as tie
 
 zero-u8-requires : tie.Need-zero-u8-requires
 zero-u8-requires c κs = search needs
