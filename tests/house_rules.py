@@ -1,10 +1,11 @@
 #!/usr/bin/env python3
 """Rules of the repository that the prover does not see. Each rule is tried at each place that it speaks of.
 
-A test file that tests/parts.txt does not list, a public function without a promise in docs/PROMISES.md or with a
-`requires`, a function without an `ensures`, a long function or proof file, a wrong answer that no promise names or that
-a promise names in vain, a crate without a line in the map or in the times, a hole or an axiom in a proof, a definition
-under a name of the library.
+A test file that tests/parts.txt does not list, a public function without a promise in docs/PROMISES.md or with one that
+holds under a premise, a call of a user with a `requires`, a function without an `ensures`, a long function or proof
+file, a kind of a schema row as a bare number, a definition or a contract that rests on a proof, a wrong answer that no
+promise names or that a promise names in vain, a crate without a line in the map or in the times, a hole or an axiom in a
+proof, a name of the library with another meaning.
 """
 import glob
 import os
@@ -47,6 +48,37 @@ for crate in crates:
     hold(f"`{crate}`" in architecture, f"crate {crate} in docs/ARCHITECTURE.md")
     hold(f"| `{crate}` |" in times, f"crate {crate} in docs/CHECK-TIMES.md")
 
+# What a user calls: its promise holds for every input.
+CALLS = {
+    "relaxng::schema_verdict",
+    "relaxng::verdict",
+    "relaxng::name_in_class",
+    "relaxng::least_common_name",
+    "relaxng::match_list",
+    "strings::string_text",
+    "reader::read_job",
+    "writer::write_job",
+    "report::report",
+}
+called = set()
+
+# Names of the library, which no definition and no parameter gives another meaning.
+OPERATORS = "_≡_ _<_ _≤_ _≢_ _++_ _&&_ _||_"
+LIBRARY = set(f"{OPERATORS} length take drop getD set replicate not cond map true false List Bool ℕ".split())
+
+# A kind of a schema row by its number: in an arm of a `match`, or in a comparison.
+KIND = r"(?:schema::kind\([^{}]*?\)|kind)"
+KIND_MATCH = re.compile(r"^( *)[^\n]*\bmatch %s \{$(.*?)^\1\}" % KIND, re.M | re.S)
+KIND_ARM = re.compile(r"^ *\d[\d_]*(?:u32)?(?: *(?:\.\.=?|\|) *[\w:]+)* *=>", re.M)
+KIND_TEST = re.compile(r"\b%s *(?:[=!<>]=|[<>]) *\d|\b\d+(?:u32)? *(?:[=!<>]=|[<>]) *%s\b" % (KIND, KIND))
+
+
+def numbered_kinds(code):
+    """The places where a kind is a bare number."""
+    arms = [a for m in KIND_MATCH.finditer(code) for a in KIND_ARM.findall(m.group(2))]
+    return [found.strip() for found in arms + KIND_TEST.findall(code)]
+
+
 # From `fn` to the `{` of the body stands the contract; a function ends at the first `}` in column 0 or of an impl.
 FUNCTION = re.compile(r"^( *)((?:pub )?(?:extern \"C\" )?)fn (\w+)(.*?)^\1\{$(.*?)^\1\}$", re.M | re.S)
 for path in sorted(glob.glob("crates/*/src/*.rt")):
@@ -60,18 +92,47 @@ for path in sorted(glob.glob("crates/*/src/*.rt")):
         place = f"{crate}::{name}"
         hold("ensures" in contract, f"{place} has an ensures")
         hold(body.count("\n") <= 40, f"{place} has at most 40 lines")
+        parameters = set(re.findall(r"(\w+): ", re.split("requires|ensures", contract)[0]))
+        hold(not parameters & LIBRARY, f"{place} gives no name of the library another meaning: {parameters & LIBRARY}")
+        if place in CALLS or "extern" in m.group(2):
+            called.add(place)
+            hold("requires" not in contract, f"{place} is called by users and has no requires")
         if m.group(2).startswith("pub"):
-            hold("requires" not in contract, f"{place} is public and has no requires")
+            promise = contract[contract.find("ensures") :]
+            hold("→" not in promise, f"{place} is public and promises without a premise")
             hold(f"`{place}`" in promises, f"{place} in docs/PROMISES.md")
+    code = re.sub(r"//.*", "", text)
+    hold(".proofs." not in code, f"{path} cites no proof")
+    if crate != "schema":
+        hold(not numbered_kinds(code), f"{path} has kinds by their names: {numbered_kinds(code)}")
+for place in sorted(CALLS):
+    hold(place in called, f"{place} is there")
 
-LIBRARY = re.compile(r"^(?:unfoldable )?(?:abbrev )?(?:pub )?(_≡_|_<_|_≤_|_≢_|_\+\+_|_&&_|_\|\|_|length|take|drop|getD|set|replicate|not|cond|true|false|List|Bool|ℕ) :", re.M)
+CONSTRUCTORS = {"true", "false"}
+# What is defined, with constructors and fields; what is bound before a `:`, after λ or `let`, and by a clause.
+DEFINED = re.compile(r"^ *(?:unfoldable )?(?:abbrev )?(?:pub )?(?:(?:record|data) (\S+)|(\S+) :(?= |$))", re.M)
+TYPED = re.compile(r"[({]([^(){}:=]+) : ")
+BOUND = re.compile(r"λ ([^.]*)\.|\blet (\S+) ")
+NAME = re.compile(r"[^\s(){},]+")
+CLAUSE = re.compile(r"^ *\S+ ([^=:]*)=(?: |$)", re.M)
+
+
+def renamed(text):
+    """The names of the library that a file of definitions gives another meaning."""
+    names = {n for pair in DEFINED.findall(text) for n in pair} | {n for part in TYPED.findall(text) for n in part.split()}
+    names |= {n for pair in BOUND.findall(text) for part in pair for n in NAME.findall(re.sub(r":[^)]*", "", part))}
+    names |= {n for part in CLAUSE.findall(text) for n in NAME.findall(part)} - CONSTRUCTORS
+    return sorted(names & LIBRARY)
+
+
 for path in sorted(glob.glob("crates/**/*.antt", recursive=True)):
     text = re.sub(r"--.*", "", read(path))
     hold(text.count("\n") <= 400, f"{path} has at most 400 lines")
     hold(not re.search(r"(?<![\w·-])\?", text), f"{path} has no hole")
     hold(not re.search(r"^\s*axiom\b|Prim\.Axiom", text, re.M), f"{path} has no axiom")
     if "/specs/" in path:
-        hold(not LIBRARY.search(text), f"{path} gives no name of the library another meaning")
+        hold(".proofs." not in text, f"{path} cites no proof")
+        hold(not renamed(text), f"{path} gives no name of the library another meaning: {renamed(text)}")
 
 labels = [label for path in sorted(glob.glob("crates/*/must-fail/*.edit")) for label in re.findall(r"^label: (.*)$", read(path), re.M)]
 for label in sorted(set(labels) | set(re.findall(r"\(`([a-z0-9_]+)`\)", promises))):

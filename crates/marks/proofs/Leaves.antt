@@ -18,6 +18,8 @@ use Rattle.schema.specs.Views.{Pattern, patternOf, text, value, attribute, ref}
 use Rattle.instance.specs.Nodes as node
 use Rattle.sets.specs.Bits.{bit}
 use Rattle.sets.proofs.Bits.{bit-and}
+use Rattle.sets.specs.Collecting.{Collects}
+use Rattle.sets.proofs.Collecting.{collected}
 use Rattle.rules.specs.Items.{element, string, none, Lookups}
 use Rattle.rules.specs.Rules.{Match, WeakMatch, NotMatchBy, text-1, text-2, data-1, data-2}
 use Rattle.rules.specs.Rules as rule
@@ -31,8 +33,7 @@ use Rattle.rules.proofs.RowPatterns.{row-makes}
 use Rattle.alone.specs.Alone.{entry}
 use Rattle.marks.specs.Given.{itemAt, pairEntry, Given}
 use Rattle.marks.specs.Marks.{attributeRow, Takes, IsPaired, TakesAttribute, LeafWord}
-use Rattle.marks.specs.Tests.{hasName, valueFits, stringAlone, elementPaired, attributeNamed, attributeFits, Collects}
-use Rattle.marks.proofs.Collecting.{collected}
+use Rattle.marks.specs.Tests.{hasName, valueFits, stringAlone, elementPaired, attributeNamed, attributeFits}
 use Rattle.marks.proofs.RowKinds.{StringPattern, of-text, of-string, string-made, taker-kinds, from-attribute, attribute-at, ref-at, ref-row}
 
 -- an entry is 1 exactly where its test says so

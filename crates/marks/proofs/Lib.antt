@@ -1,4 +1,3 @@
-pub mod Collecting
 pub mod Leaves
 pub mod Marking
 pub mod Operands

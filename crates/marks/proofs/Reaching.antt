@@ -13,6 +13,8 @@ use Rattle.schema.specs.Rows.{kindOf, aOf, bOf}
 use Rattle.schema.specs.Views.{Pattern, patternOf, attribute, ref}
 use Rattle.restrictions.specs.Schema.{SchemaPasses}
 use Rattle.sets.specs.Bits.{bit}
+use Rattle.sets.specs.Collecting.{Collects}
+use Rattle.sets.proofs.Collecting.{collected}
 use Rattle.rules.specs.Items.{Item, element, string, Lookups}
 use Rattle.rules.specs.Job.{lookups}
 use Rattle.tables.proofs.Booleans.{is-false}
@@ -22,8 +24,7 @@ use Rattle.rules.proofs.RowPatterns.{Makes, row-makes}
 use Rattle.marks.specs.Answers.{AtOperands}
 use Rattle.marks.specs.Given.{itemAt}
 use Rattle.marks.specs.Marks.{attributeRow, NamedWord, TakenWord}
-use Rattle.marks.specs.Tests.{hasName, elementNamed, attributeNamed, Collects, joinedBy}
-use Rattle.marks.proofs.Collecting.{collected}
+use Rattle.marks.specs.Tests.{hasName, elementNamed, attributeNamed, joinedBy}
 use Rattle.marks.proofs.Operands.{reaches-itself, joined-reaches}
 use Rattle.marks.proofs.RowKinds.{StringPattern, of-text, of-string, string-made, string-kinds, operand-kinds, attribute-at, ref-at, ref-definition}
 

@@ -1,10 +1,9 @@
 -- The tests of one item or one attribute that words are made by; cited by private functions only.
 use Prim.Native.Nat.{ℕ}
-use mathlib.Core.Path.{_≡_}
 use mathlib.Core.Bool.{Bool, not, cond, _&&_, _||_}
 use mathlib.Core.List.{List}
 use lib.Bits.{bitOr}
-use lib.Dec.{eqb, ltb, leb}
+use lib.Dec.{eqb, leb}
 use lib.ListN.{getD}
 use Rattle.schema.specs.Kinds as kind
 use Rattle.instance.specs.Nodes.{aOf, bOf, cOf}
@@ -41,10 +40,6 @@ attributeNamed s t e c x = hasName s t c (attributeRow e x)
 -- whether the value of attribute x weakly matches the pattern at row q
 abbrev pub attributeFits : (t alone nothing blank : List ℕ) (e q : ℕ) → ℕ → Bool
 attributeFits t alone nothing blank e q x = valueFits alone nothing blank q (cOf t (attributeRow e x))
-
--- w has the positions below n that pass a test
-pub record Collects (test : ℕ → Bool) (n w : ℕ) : Type 0 where
-  pub members : (k : ℕ) → bit w k ≡ (ltb k n && test k)
 
 -- the union of the words v and w of its operands, for a row of kind k; oneOrMore has one operand
 unfoldable pub joinedBy : ℕ → ℕ → ℕ → ℕ

@@ -1,18 +1,18 @@
 // What each pattern of a schema does with the attributes and the children of one element, as sets.
 ghost use mathlib.Core.Path.{_≡_};
-ghost use mathlib.Core.Bool.{cond, _&&_};
-ghost use Prim.Native.Nat.{_+_, _*_, _^_, _≤_, _<_};
-ghost use lib.Bits.{bitOr};
-ghost use lib.Dec.{eqb, ltb};
+ghost use Prim.Native.Nat.{_+_, _*_, _≤_, _<_};
+ghost use lib.Dec.{eqb};
 ghost use lib.ListN.{length, getD};
 ghost use Rattle.schema.specs.Rows.{kindOf, aOf, bOf};
 ghost use Rattle.instance.specs.Width.{maxWidth};
+ghost use Rattle.sets.specs.Collecting.{Collects};
 ghost use Rattle.marks.specs.Answers.{Room, LeafAnswer, NamedAnswer, TakenAnswer, SingleAnswer, RowAnswer, SmallerAnswer, OperandsAnswer, PatternAnswer, firstOperand, secondOperand};
 ghost use Rattle.marks.specs.Given.{Markable, Marks};
 ghost use Rattle.marks.specs.Marks.{attributeRow};
-ghost use Rattle.marks.specs.Tests.{hasName, valueFits, stringAlone, elementPaired, elementNamed, attributeNamed, attributeFits, Collects, joinedBy};
+ghost use Rattle.marks.specs.Tests.{hasName, valueFits, stringAlone, elementPaired, elementNamed, attributeNamed, attributeFits, joinedBy};
 
-// A row of the table of strings alone, and one of the table of pairs, has so many entries.
+// A row of the table of strings alone has an entry for each of 512 strings, one of the table of pairs an entry for each
+// of 512 schema rows.
 const STRIDE: usize = 512;
 
 // A field of the row of attribute x of element e.
@@ -62,19 +62,6 @@ fn attribute_named(schema: &[u32], instance: &[u32], e: u32, c: u32, x: u32) -> 
     )
 }
 
-// A set with position k too, if so said; a position past the word is not added.
-pub fn add_if(set: u64, k: u32, yes: bool) -> u64
-    ensures { λ r. ⌜ r ≡ cond (ltb k 64 && yes) (bitOr set (2 ^ k)) set ⌝ }
-{
-    if 64 <= k {
-        return set;
-    }
-    if yes {
-        return set | 1u64 << k;
-    }
-    set
-}
-
 // The strings among the items that alone match the pattern at row p.
 fn strings_alone(alone: &[u8], items: &[u32], texts: u64, p: u32) -> u64
     requires { ⌜ length (now items) ≤ maxWidth ⌝ }
@@ -84,7 +71,7 @@ fn strings_alone(alone: &[u8], items: &[u32], texts: u64, p: u32) -> u64
     let mut k: u32 = 0;
     while (k as usize) < items.len() {
         let item = tables::word(items, k as usize);
-        set = add_if(set, k, sets::has(texts, k) & is_set(alone, p, item));
+        set = sets::add_if(set, k, sets::has(texts, k) & is_set(alone, p, item));
         k += 1;
     }
     set
@@ -99,7 +86,7 @@ fn elements_paired(pairs: &[u8], items: &[u32], texts: u64, d: u32) -> u64
     let mut k: u32 = 0;
     while (k as usize) < items.len() {
         let item = tables::word(items, k as usize);
-        set = add_if(set, k, !sets::has(texts, k) & is_set(pairs, item, d));
+        set = sets::add_if(set, k, !sets::has(texts, k) & is_set(pairs, item, d));
         k += 1;
     }
     set
@@ -114,7 +101,7 @@ fn elements_named(schema: &[u32], instance: &[u32], items: &[u32], texts: u64, c
     let mut k: u32 = 0;
     while (k as usize) < items.len() {
         let item = tables::word(items, k as usize);
-        set = add_if(
+        set = sets::add_if(
             set,
             k,
             !sets::has(texts, k) & row_named(schema, instance, c, item),
@@ -132,7 +119,7 @@ fn attributes_named(schema: &[u32], instance: &[u32], e: u32, attributes: u32, c
     let mut set: u64 = 0;
     let mut x: u32 = 0;
     while x < attributes {
-        set = add_if(set, x, attribute_named(schema, instance, e, c, x));
+        set = sets::add_if(set, x, attribute_named(schema, instance, e, c, x));
         x += 1;
     }
     set
@@ -155,7 +142,7 @@ fn attributes_fitting(
     let mut x: u32 = 0;
     while x < attributes {
         let v = attribute_word(instance, e, x, 4);
-        set = add_if(set, x, value_fits(alone, nothing, blank, q, v));
+        set = sets::add_if(set, x, value_fits(alone, nothing, blank, q, v));
         x += 1;
     }
     set

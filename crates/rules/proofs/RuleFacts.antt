@@ -1,4 +1,4 @@
--- What single rules of 9.3 grant or shut out: text, whitespace beside an element, content that is empty, repetitions that share an attribute name.
+-- What single rules of 9.3 grant or shut out: text, whitespace beside an element, content that is empty, the order of what interleaves, repetitions that share an attribute name.
 use Prim.Native.Nat.{ℕ}
 use mathlib.Core.Path.{_≡_, sym, _∙_}
 use mathlib.Core.Bool.{true}
@@ -9,9 +9,13 @@ use Rattle.schema.specs.Views.{Pattern}
 use Rattle.schema.specs.Views as pattern
 use Rattle.rules.specs.Items.{Item, string, Attributes, none, Lookups}
 use Rattle.rules.specs.Items as item
-use Rattle.rules.specs.Rules.{ws-empty, ws-string, Match, WeakMatch, text-1, text-2, oneOrMore-1, oneOrMore-2, attribute, element, data-1, weak-match-3}
+use Rattle.rules.specs.Rules.{Interleaves, interleaves-1, interleaves-2, interleaves-3, ws-empty, ws-string, Match, WeakMatch, text-1, text-2, oneOrMore-1, oneOrMore-2, attribute, element, data-1, weak-match-3}
 use Rattle.tables.proofs.Booleans.{or-either}
 use Rattle.rules.specs.Spans.{Paired}
+
+-- an item of the second side may come before one of the first
+pub second-first : (x y : Item) → Interleaves (x ∷ y ∷ []) (y ∷ []) (x ∷ [])
+second-first x y = interleaves-3 (x ∷ []) (interleaves-2 (y ∷ []) interleaves-1)
 
 module _ (L : Lookups) (NotMatch : List ℕ → ℕ → Type 0) where
   -- text takes no string, and more than one

@@ -1,9 +1,10 @@
 -- The invariant: the set has the attributes below x whose values fit.
 use Prim.Native.Nat.{_-_, _≤_}
-use Rattle.marks.proofs.Collecting.{collects-none, collects-more}
+use Rattle.sets.proofs.Collecting.{collects-none, collects-more}
 use Rattle.marks.proofs.attributes_fitting.Statement.{statement}
 use Rattle.marks.proofs.attributes_fitting.Tie as tie
-use Rattle.marks.specs.Tests.{attributeFits, Collects}
+use Rattle.marks.specs.Tests.{attributeFits}
+use Rattle.sets.specs.Collecting.{Collects}
 use borrow.Author.Needs.{needs}
 use mathlib.Core.Path.{_≡_}
 use native.Mathlib.Omega.{arith}
@@ -33,7 +34,7 @@ loop-less : tie.Need-loop-less Inv-loop μ-loop
 loop-less c = omega arith
 
 loop-again : tie.Need-loop-again Inv-loop μ-loop
-loop-again c = (collects-more (c .before .before .before .before .loop .inv .0) (rw (c .before .before .attribute-word .ensures) at (c .before .value-fits .ensures)) (omega arith) (c .add-if .ensures), omega arith)
+loop-again c = (collects-more (c .before .before .before .before .loop .inv .0) (rw (c .before .before .attribute-word .ensures) at (c .before .value-fits .ensures)) (c .add-if .ensures), omega arith)
 
 returns : tie.Need-returns Inv-loop μ-loop
 returns c = let i = c .before .loop .inv in let e : c .before .loop .x ≡ c .before .before .before .before .before .before .args .attributes = omega arith in rw e at (i .0)

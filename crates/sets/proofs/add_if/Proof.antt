@@ -9,7 +9,7 @@ shl-result : tie.Need-shl-result
 shl-result c = search needs
 
 returns : tie.Need-returns
-returns c = let s = c .before .args in rw (one-shl (s .k) (c .before .pre)) (added (s .set) (s .k) (c .if1 .taken))
+returns c = let a = c .before .args in rw (one-shl (a .k) (c .before .pre)) (added (a .s) (a .k) (c .if1 .taken))
 
 returns-2 : tie.Need-returns-2
 returns-2 c = not-added _ _ (c .if1 .left)
