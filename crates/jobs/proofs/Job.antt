@@ -20,11 +20,11 @@ use Rattle.instance.specs.NodeRule.{maxNodes}
 use Rattle.instance.specs.Nodes.{nodesOf}
 use Rattle.instance.proofs.Order.{and-parts}
 use Rattle.jobs.specs.Ascii.{ascii}
-use Rattle.jobs.specs.Numbers.{decimal, wordsText, hexText}
+use Rattle.jobs.specs.Numbers.{decimal, wordsText, hexText, Words, Bytes}
 use Rattle.jobs.specs.Lines.{lineFeed, linesOf, isEnded}
 use Rattle.jobs.specs.Written.{stringLines, rowLines, jobLines, jobText}
 use Rattle.jobs.specs.Reading.{Reading, read, lines, addString, addRow, addNode, readLines, readJob, maxFile}
-use Rattle.jobs.proofs.Texts.{Lacks, lacks-append, lacks-decimal, lacks-words, lacks-hex, Lined, lines-back, lined-append, lines-ended, Words, Bytes, bytes-back}
+use Rattle.jobs.proofs.Texts.{Lacks, lacks-append, lacks-decimal, lacks-words, lacks-hex, Lined, lines-back, lined-append, lines-ended, bytes-back}
 use Rattle.jobs.proofs.RoundTrip.{count-back, bytes-take, bytes-drop, withRow, withNode, rows-back, schema-back, instance-back}
 
 module _ (T : StringTable) (right : StringsRight T) where

@@ -10,11 +10,11 @@ use lib.Seq.{length-take-le}
 use borrow.Author.Tests.{le-leb}
 use Rattle.tables.specs.Tables.{Tables, tablesOf}
 use Rattle.jobs.specs.Ascii.{ascii}
-use Rattle.jobs.specs.Numbers.{largestNumber, decimal, wordsText}
+use Rattle.jobs.specs.Numbers.{largestNumber, decimal, wordsText, Words, Bytes}
 use Rattle.jobs.specs.Written.{rowLines}
 use Rattle.jobs.specs.Reading.{Reading, lines, count, rowOf, addRow, addNode}
 use Rattle.jobs.proofs.Decimals.{number-back}
-use Rattle.jobs.proofs.Texts.{after-back, Words, words-back, Bytes}
+use Rattle.jobs.proofs.Texts.{after-back, words-back}
 
 -- a count
 pub count-back : (key : List ℕ) (limit n : ℕ) → n ≤ limit → limit ≤ largestNumber → count key limit (key ++ decimal n) ≡ some n

@@ -11,7 +11,7 @@ use lib.ListN.{length}
 use lib.Dec.{ltb, leb, eqb}
 use borrow.Author.Tests.{lt-ltb, le-ltb, le-leb, lt-leb, eq-eqb, ne-eqb, leb-true}
 use Rattle.instance.proofs.Order.{and-parts}
-use Rattle.jobs.specs.Numbers.{largestWord, decimalBy, decimal, wordText, wordsText, hexDigit, hexText, isDigit, allDigits, wordOf, hexValue, hexPair, hexBytes}
+use Rattle.jobs.specs.Numbers.{largestWord, decimalBy, decimal, wordText, wordsText, hexDigit, hexText, Words, Bytes, isDigit, allDigits, wordOf, hexValue, hexPair, hexBytes}
 use Rattle.jobs.specs.Lines.{lineFeed, comma, textOfLines, inFront, linesOf, isEnded, fieldsOf, after}
 use Rattle.jobs.specs.Reading.{wordsOf, andThen}
 use Rattle.jobs.proofs.Decimals.{lt-or-ge, all-digits, word-back}
@@ -106,10 +106,6 @@ fields-back w [] = field-last (wordText w) (lacks-word comma w (omega arith))
 fields-back w (v ∷ ws) = field-more (wordText w) (wordsText (v ∷ ws)) (lacks-word comma w (omega arith)) ∙ ap (λ r. wordText w ∷ r) (fields-back v ws)
 
 -- words
-abbrev pub Words : List ℕ → Type 0
-Words [] = Unit {0}
-Words (w ∷ ws) = (w ≤ largestWord) × Words ws
-
 words-of : (ws : List ℕ) → Words ws → wordsOf (length ws) (map wordText ws) ≡ some ws
 words-of [] h = refl
 words-of (w ∷ ws) h = rw (word-back w (h .0), words-of ws (h .1))
@@ -127,10 +123,6 @@ hex-back n h = ⊎-elim digit letter (lt-or-ge n 10)
 
     letter : 10 ≤ n → hexValue (hexDigit n) ≡ some n
     letter l = let e : 87 + n - 87 ≡ n = omega arith in rw (le-ltb n 10 l, le-leb 48 (87 + n) (omega arith), lt-leb (87 + n) 57 (omega arith), le-leb 97 (87 + n) (omega arith), le-leb (87 + n) 102 (omega arith), e)
-
-abbrev pub Bytes : List ℕ → Type 0
-Bytes [] = Unit {0}
-Bytes (b ∷ bytes) = (b < 256) × Bytes bytes
 
 pub bytes-back : (bytes : List ℕ) → Bytes bytes → hexBytes (hexText bytes) ≡ some bytes
 bytes-back [] h = refl

@@ -1,5 +1,5 @@
 -- Numbers and strings in a job file: decimal words, with `-` for the largest, and pairs of hexadecimal digits.
-use Prim.Native.Nat.{ℕ, zero, suc, _+_, _-_, _*_, _/_, _%_}
+use Prim.Native.Nat.{ℕ, zero, suc, _+_, _-_, _*_, _/_, _%_, _≤_, _<_}
 use mathlib.Core.Bool.{Bool, true, false, not, cond, _&&_}
 use mathlib.Core.List.{List, [], _∷_, _++_}
 use mathlib.Core.Option.{Option, none, some}
@@ -11,6 +11,15 @@ largestWord = 4294967295
 
 abbrev pub largestNumber : ℕ
 largestNumber = 4294967294
+
+-- words and bytes, as the tables of a job hold them
+abbrev pub Words : List ℕ → Type 0
+Words [] = Unit {0}
+Words (w ∷ ws) = (w ≤ largestWord) × Words ws
+
+abbrev pub Bytes : List ℕ → Type 0
+Bytes [] = Unit {0}
+Bytes (b ∷ bytes) = (b < 256) × Bytes bytes
 
 -- decimal digits without leading zeros, of a number of at most so many digits
 unfoldable pub decimalBy : ℕ → ℕ → List ℕ

@@ -1,17 +1,20 @@
 -- What follows from the verdict on a schema for the calls that go on from there.
 use mathlib.Core.Path.{_≡_, refl, sym, _∙_, subst}
-use mathlib.Core.Bool.{Bool, true, false, true≢false}
+use mathlib.Core.Bool.{Bool, true, false, _&&_, true≢false}
 use mathlib.Core.List.{List}
 use Prim.Native.Nat.{ℕ, _<_}
 use native.Mathlib.Omega.{arith}
-use lib.ListN.{length}
-use Rattle.tables.specs.Refusals.{Tries, refused, goes-on, Passes}
+use lib.Dec.{eqb}
+use borrow.Author.Tests.{ne-eqb}
+use Rattle.tables.specs.Tables.{StringTable}
+use Rattle.strings.specs.Strings.{schemaStrings}
+use Rattle.tables.specs.Refusals.{Tries, refused, goes-on, Passes, codeOf, placeOf, Coded}
 use Rattle.tables.specs.declared.Verdict.{Verdict}
 use Rattle.tables.specs.declared.Verdict.the-variants.{Passed, Refused}
 use Rattle.tables.proofs.Chain.{tries-map, tries-go}
 use Rattle.schema.specs.Rows.{sortOf, isClass}
 use Rattle.schema.specs.RowRule.{RowsRight}
-use Rattle.relaxng.specs.Answers.{membershipVerdict, commonVerdict, foundName, notJudged, notSought, commonName}
+use Rattle.relaxng.specs.Answers.{commonVerdict, foundName, commonName}
 use Rattle.classes.specs.declared.Found.{Found}
 use Rattle.classes.specs.declared.Found.the-variants.{Name, Nothing}
 use Rattle.relaxng.specs.Promises.{SchemaRefusal, NotClass, NoClass, not-first, not-second}
@@ -19,33 +22,52 @@ use Rattle.relaxng.specs.Promises.{SchemaRefusal, NotClass, NoClass, not
 pub refused-passed : {code place : ℕ} → Refused code place ≡ Passed → ⊥
 refused-passed e = let z : _≡_ {A = ℕ} 0 1 = cc in omega arith
 
-module _ {bytes ends s : List ℕ} {next : Verdict → Type 0} where
+module _ {T : StringTable} {s : List ℕ} {next : Verdict → Type 0} where
   -- a refusal by a code up to 8 stands whatever comes after
-  pub schema-refused : {v : Verdict} {code place : ℕ} → v ≡ Refused code place → SchemaRefusal bytes ends s Passes v → SchemaRefusal bytes ends s next v
+  pub schema-refused : {v : Verdict} {code place : ℕ} → v ≡ Refused code place → SchemaRefusal T s Passes v → SchemaRefusal T s next v
   schema-refused {v} e = tries-map (tries-map (tries-map (tries-map (tries-map (tries-map (tries-map (tries-map never)))))))
     where
       never : v ≡ Passed → next v
       never p = absurd (refused-passed (sym e ∙ p))
 
   -- a schema that passes leaves the rest to what comes after
-  pub schema-passed : {v w : Verdict} → v ≡ Passed → SchemaRefusal bytes ends s Passes v → next w → SchemaRefusal bytes ends s next w
-  schema-passed {v} {w} e r x = go (subst (SchemaRefusal bytes ends s Passes) e r)
+  pub schema-passed : {v w : Verdict} → v ≡ Passed → SchemaRefusal T s Passes v → next w → SchemaRefusal T s next w
+  schema-passed {v} {w} e r x = go (subst (SchemaRefusal T s Passes) e r)
     where
-      go : SchemaRefusal bytes ends s Passes Passed → SchemaRefusal bytes ends s next w
+      go : SchemaRefusal T s Passes Passed → SchemaRefusal T s next w
       go = tries-go (tries-go (tries-go (tries-go (tries-go (tries-go (tries-go (tries-go (λ p. x))))))))
 
-rows-of : {bytes ends s : List ℕ} → SchemaRefusal bytes ends s Passes Passed → RowsRight (length ends) s
+rows-of : {T : StringTable} {s : List ℕ} → SchemaRefusal T s Passes Passed → RowsRight (schemaStrings T) s
 rows-of (goes-on strings (goes-on rows x)) = rows
 
-pub passed-rows : {bytes ends s : List ℕ} {v : Verdict} → v ≡ Passed → SchemaRefusal bytes ends s Passes v → RowsRight (length ends) s
-passed-rows {bytes} {ends} {s} e r = rows-of (subst (SchemaRefusal bytes ends s Passes) e r)
+pub passed-rows : {T : StringTable} {s : List ℕ} {v : Verdict} → v ≡ Passed → SchemaRefusal T s Passes v → RowsRight (schemaStrings T) s
+passed-rows {T} {s} e r = rows-of (subst (SchemaRefusal T s Passes) e r)
 
--- an answer that is a refusal says what the verdict says
-pub judged-same : {v : Verdict} {code place : ℕ} → v ≡ Refused code place → membershipVerdict (notJudged v) ≡ v
-judged-same e = rw e
+-- a refusal has a code from 1 on
+pub tries-coded : {code : ℕ} {P : ℕ → Type 0} {next : Verdict → Type 0} {v : Verdict} → 0 < code → (next v → Coded v) → Tries code P next v → Coded v
+tries-coded h f (refused p x c) = h
+tries-coded h f (goes-on n y) = f y
 
-pub sought-same : {v : Verdict} {code place : ℕ} → v ≡ Refused code place → commonVerdict (notSought v) ≡ v
-sought-same e = rw e
+pub passes-coded : {v : Verdict} → Passes v → Coded v
+passes-coded e = rw e tt
+
+pub schema-coded : {T : StringTable} {s : List ℕ} {next : Verdict → Type 0} {v : Verdict} → (next v → Coded v) → SchemaRefusal T s next v → Coded v
+schema-coded f =
+    tries-coded (omega arith) (tries-coded (omega arith) (tries-coded (omega arith) (tries-coded (omega arith) (tries-coded (omega arith) (tries-coded (omega arith) (tries-coded (omega arith) (tries-coded (omega arith) f)))))))
+
+-- code and place of a refusal make it again
+pub refused-same : {v : Verdict} {code place a b : ℕ} → v ≡ Refused code place → a ≡ codeOf v → b ≡ placeOf v → v ≡ Refused a b
+refused-same e f g = rw (f, g, e)
+
+module _ {T : StringTable} {s : List ℕ} {v : Verdict} {code place a b : ℕ} (e : v ≡ Refused code place) (f : a ≡ codeOf v) (g : b ≡ placeOf v) (r : SchemaRefusal T s Passes v) where
+  pub refused-as : {next : Verdict → Type 0} → SchemaRefusal T s next (Refused a b)
+  refused-as {next} = subst (SchemaRefusal T s next) (refused-same e f g) (schema-refused e r)
+
+  pub code-above : 0 < a
+  code-above = schema-coded passes-coded (refused-as {next = Passes})
+
+pub no-yes : {a : ℕ} (b : Bool) → 0 < a → false ≡ (eqb a 0 && b)
+no-yes {a} b h = rw (ne-eqb a 0 (λ e. omega arith))
 
 -- code 11
 module _ (s : List ℕ) (row : ℕ) where

@@ -1,73 +1,73 @@
--- The way there and back: what write_job wrote, read_job reads as the same four tables. It cites the promises of the two calls, not their code.
-use mathlib.Core.Path.{_≡_, refl, sym, _∙_, ap}
+-- The round trip, from the promises of write_job and read_job, not from their code.
+use mathlib.Core.Path.{_≡_, refl, _∙_, ap, subst}
 use mathlib.Core.Bool.{true}
 use mathlib.Core.List.{List, _++_}
-use Prim.Native.Nat.{ℕ, _≤_, _%_}
+use Prim.Native.Nat.{ℕ, _≤_}
+use native.Mathlib.Omega.{arith}
 use lib.ListN.{length, take}
 use lib.Seq.{take-take, take-append-seam}
 use borrow.Author.Tests.{le-leb}
-use Rattle.tables.proofs.Numbers.{not-less}
+use Rattle.tables.proofs.Numbers.{not-less, is-same}
 use Rattle.tables.specs.Outputs.{zeros}
 use Rattle.tables.specs.Refusals.{goes-on}
+use Rattle.tables.specs.Tables.{Tables}
 use Rattle.tables.specs.declared.Verdict.the-variants.{Passed}
 use Rattle.schema.specs.Rows.{rowsOf}
 use Rattle.instance.specs.Nodes.{nodesOf}
-use Rattle.jobs.specs.Reading.{read, readJob}
+use Rattle.jobs.specs.Reading.{Reading, read, readJob}
 use Rattle.jobs.specs.Written.{jobText}
 use Rattle.jobs.proofs.Job.{Writable, round-trip}
-use Rattle.jobs.proofs.Texts.{Words, Bytes}
-use Rattle.reader.specs.Promises.{Room, fits, readAnswer, given}
-use Rattle.reader.specs.declared.JobRead.the-variants.{Read}
+use Rattle.lines.specs.Promises.{Room, OutputsHold}
+use Rattle.reader.specs.Promises.{fits, given, Counts, JobAnswer}
+use Rattle.reader.specs.declared.JobRead.{JobRead}
+use Rattle.reader.specs.declared.JobRead.the-variants.{Read, NotRead}
 use Rattle.writer.specs.Promises.{WriteJob, too-many-rows, broken-length, too-long, too-short}
-use Rattle.writer.proofs.Job.{Chain, is-zero}
+use Rattle.writer.proofs.Job.{Chain}
 use Rattle.writer.specs.declared.JobWritten.the-variants.{Written}
+use Rattle.relaxng.specs.RoundTrip.{MachineWords, LongEnough, ReadsJob, ReadsBack, RoundTrip}
 
--- each output of the reader is long enough for its table
-pub record LongEnough (bytes ends schema instance : List ℕ) (room : Room) : Type 0 where
-  pub for-bytes : length bytes ≤ room .bytes
-  pub for-ends : length ends ≤ room .ends
-  pub for-schema : length schema ≤ room .schema
-  pub for-instance : length instance ≤ room .instance
-
--- the chain of the writer, passed
-module _ {bytes ends schema instance : List ℕ} {room : ℕ} where
-  passed : Chain bytes ends schema instance room Passed → Bytes bytes → Words schema → Words instance → Writable bytes ends schema instance × (length (jobText bytes ends schema instance) ≤ room)
-  passed (goes-on strings (goes-on rows (goes-on nodes (goes-on text e)))) b u v = (
+module _ (J : Tables) where
+  -- the chain of the writer, passed
+  passed : {room : ℕ} → Chain J room Passed → MachineWords J → Writable J × (length (jobText J) ≤ room)
+  passed (goes-on strings (goes-on rows (goes-on nodes (goes-on text e)))) m = (
     record {
       strings-right = strings;
-      are-bytes = b;
-      schema-words = u;
-      instance-words = v;
+      are-bytes = m .bytes;
+      schema-words = m .schema;
+      instance-words = m .instance;
       few-rows = not-less (λ f. rows 0 (too-many-rows f refl));
-      whole-rows = is-zero (length schema % 3) (λ f. rows 0 (broken-length f refl));
+      whole-rows = is-same (λ f. rows 0 (broken-length f refl));
       few-nodes = not-less (λ f. nodes 0 (too-many-rows f refl));
-      whole-nodes = is-zero (length instance % 5) (λ f. nodes 0 (broken-length f refl));
+      whole-nodes = is-same (λ f. nodes 0 (broken-length f refl));
       short = not-less (λ f. text 0 (too-long f refl));
     },
     not-less (λ f. text 0 (too-short f refl)),
   )
 
-module _ (bytes ends schema instance : List ℕ) (room n : ℕ) (out : List ℕ) (w : WriteJob bytes ends schema instance room out (Written n)) (b : Bytes bytes) (u : Words schema) (v : Words instance) where
-  abbrev text : List ℕ
-  text = jobText bytes ends schema instance
+  module _ {size n : ℕ} {out : List ℕ} (m : MachineWords J) (w : WriteJob J size out (Written n)) where
+    -- the first n bytes of the output are the text
+    file-is-text : take n out ≡ jobText J
+    file-is-text =
+        let h = passed (w .refusal) m .1 in
+        rw (w .size, w .holds) (take-take (length (jobText J)) size (jobText J ++ zeros size) h ∙ take-append-seam (jobText J) (zeros size))
 
-  -- the first n bytes of the output are the text
-  file-is-text : take n out ≡ text
-  file-is-text =
-      let e : n ≡ length text = cc (w .answer refl) in
-      let h = passed (w .refusal) b u v .1 in
-      rw (e, w .written refl) (take-take (length text) room (text ++ zeros room) h ∙ take-append-seam text (zeros room))
+    reads-as : readJob (take n out) ≡ read J
+    reads-as = ap readJob file-is-text ∙ round-trip J (passed (w .refusal) m .0)
 
-  -- the tables and their counts come back
-  pub reads-as : readJob (take n out) ≡ read (record { bytes = bytes; ends = ends; schema = schema; instance = instance })
-  reads-as = ap readJob file-is-text ∙ round-trip bytes ends schema instance (passed (w .refusal) b u v .0)
-
-  module _ (outputs : Room) (long : LongEnough bytes ends schema instance outputs) where
-    fits-all : fits (record { bytes = bytes; ends = ends; schema = schema; instance = instance }) outputs ≡ true
+  -- tables that fit are given whole
+  module _ {room : Room} (long : LongEnough J room) where
+    fits-all : fits J room ≡ true
     fits-all = rw (le-leb _ _ (long .for-bytes), le-leb _ _ (long .for-ends), le-leb _ _ (long .for-schema), le-leb _ _ (long .for-instance))
 
-    pub same-answer : readAnswer (readJob (take n out)) outputs ≡ Read (length bytes) (length ends) (rowsOf schema) (nodesOf instance)
-    same-answer = rw (reads-as, fits-all)
+    whole : given (read J) room ≡ J
+    whole = rw fits-all
 
-    pub same-tables : given (readJob (take n out)) outputs ≡ record { bytes = bytes; ends = ends; schema = schema; instance = instance }
-    same-tables = rw (reads-as, fits-all)
+    sizes : {reading : Reading} (r : JobRead) → reading ≡ read J → JobAnswer reading room r → r ≡ Read (length (J .strings .bytes)) (length (J .strings .ends)) (rowsOf (J .schema)) (nodesOf (J .instance))
+    sizes (Read bytes strings rows nodes) e a = let q = rw (e, fits-all) at (a .counts) in ap (λ (k : Counts). Read (k .bytes) (k .strings) (k .rows) (k .nodes)) q
+    sizes (NotRead code place) e a = let q = rw (e, fits-all) at (a .code) in let c = a .coded in absurd (omega arith)
+
+    tables-back : {reading : Reading} {bytes ends schema instance : List ℕ} → reading ≡ read J → OutputsHold (given reading room) room bytes ends schema instance → OutputsHold J room bytes ends schema instance
+    tables-back {bytes = bytes} {ends} {schema} {instance} e h = subst (λ (t : Tables). OutputsHold t room bytes ends schema instance) (ap (λ (x : Reading). given x room) e ∙ whole) h
+
+pub reads-back : (J : Tables) → RoundTrip J
+reads-back J size n out m w room bytes ends schema instance r long x = record { answer = sizes J long r (reads-as J m w) (x .answer); outputs = tables-back J long (reads-as J m w) (x .outputs) }

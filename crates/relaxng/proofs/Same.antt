@@ -2,9 +2,10 @@
 use Prim.Native.Nat.{ℕ, _<_}
 use mathlib.Core.Path.{_≡_, refl, sym, _∙_, ap, ap₂}
 use mathlib.Core.List.{List}
-use mathlib.Core.Logic.{⊎-elim}
+use mathlib.Core.Logic.{_≢_, ⊎-elim}
 use native.Mathlib.Omega.{arith}
 use lib.ListN.{length}
+use Rattle.tables.specs.Tables.{Tables}
 use Rattle.tables.specs.Outputs.{laid}
 use Rattle.tables.specs.Refusals.{Tries, refused, goes-on, Passes}
 use Rattle.tables.specs.declared.Verdict.{Verdict}
@@ -16,7 +17,8 @@ use Rattle.relaxng.specs.Answers.{matchesVerdict, pairCount}
 use Rattle.relaxng.specs.Matching.{InstanceRefusal, Matched, ListsMatches, ListTooShort}
 use Rattle.relaxng.specs.declared.Matches.{Matches}
 use Rattle.relaxng.specs.declared.Matches.the-variants.{Valid, NotValid, NotMatched}
-use Rattle.relaxng.proofs.Refused.{refused-passed}
+use Rattle.relaxng.proofs.Refused.{refused-passed, tries-coded, passes-coded}
+use Rattle.relaxng.proofs.Matched.{instance-coded}
 
 -- two verdicts of one chain are the same
 tries-same : {code : ℕ} {P : ℕ → Type 0} {next : Verdict → Type 0} {v w : Verdict} → (next v → next w → v ≡ w) → Tries code P next v → Tries code P next w → v ≡ w
@@ -25,11 +27,11 @@ tries-same f (refused p x c) (goes-on n y) = absurd (n p x)
 tries-same f (goes-on n x) (refused q y d) = absurd (n q y)
 tries-same f (goes-on n x) (goes-on m y) = f x y
 
-module _ {bytes ends s t : List ℕ} {room : ℕ} {l m : List ℕ} {r q : Matches} (a : ListsMatches bytes ends s t room l r) (b : ListsMatches bytes ends s t room m q) where
+module _ {J : Tables} {room : ℕ} {l m : List ℕ} {r q : Matches} (a : ListsMatches J room l r) (b : ListsMatches J room m q) where
   same-verdict : matchesVerdict r ≡ matchesVerdict q
   same-verdict = tries-same (tries-same (tries-same (tries-same (tries-same (tries-same (tries-same (tries-same (tries-same (tries-same (tries-same (λ x y. x ∙ sym y))))))))))) (a .refusal) (b .refusal)
 
-  module _ (x : Matched bytes ends s t room l r) (y : Matched bytes ends s t room m q) where
+  module _ (x : Matched J room l r) (y : Matched J room m q) where
     same-pairs : x .pairs ≡ y .pairs
     same-pairs = unique (x .all .rising) (x .all .lists) (y .all .rising) (y .all .lists)
 
@@ -39,13 +41,17 @@ module _ {bytes ends s t : List ℕ} {room : ℕ} {l m : List ℕ} {r q : Matche
     same-count : pairCount r ≡ pairCount q
     same-count = x .written .counted ∙ ap length same-pairs ∙ sym (y .written .counted)
 
+-- a refusal has a code
+coded-code : {J : Tables} {room c p : ℕ} {l : List ℕ} → ListsMatches J room l (NotMatched c p) → c ≢ 0
+coded-code a e = let h = instance-coded (tries-coded (omega arith) passes-coded) (a .refusal) in omega arith
+
 -- an answer that refuses nothing is its count and valid or not
-pub same-answer : {bytes ends s t : List ℕ} {room : ℕ} {l m : List ℕ} (r q : Matches) → ListsMatches bytes ends s t room l r → ListsMatches bytes ends s t room m q → (r ≡ q) × (l ≡ m)
+pub same-answer : {J : Tables} {room : ℕ} {l m : List ℕ} (r q : Matches) → ListsMatches J room l r → ListsMatches J room m q → (r ≡ q) × (l ≡ m)
 same-answer (NotMatched c p) (NotMatched d k) a b =
     let e = same-verdict a b in
     let x : c ≡ d = cc e in
     let y : p ≡ k = cc e in
-    (ap₂ NotMatched x y, a .zeroed (λ z. refused-passed z) ∙ sym (b .zeroed (λ z. refused-passed z)))
+    (ap₂ NotMatched x y, a .zeroed (coded-code a) ∙ sym (b .zeroed (coded-code b)))
 same-answer (NotMatched c p) (Valid n) a b = absurd (refused-passed (same-verdict a b))
 same-answer (NotMatched c p) (NotValid n) a b = absurd (refused-passed (same-verdict a b))
 same-answer (Valid n) (NotMatched d k) a b = absurd (refused-passed (sym (same-verdict a b)))

@@ -1,4 +1,4 @@
--- What each case of an answer says: of refusal, as a verdict with document 01's code and place (`codeOf`, `placeOf` of `Refusals`); yes or no; the name or none.
+-- What each case of an answer says, by document 01's numbers: of refusal, as a verdict, whose code and place are `codeOf` and `placeOf` of it, 0 and 0 where nothing is refused; yes or no; the name or none; the number of pairs.
 use Prim.Native.Nat.{ℕ}
 use mathlib.Core.Bool.{Bool, true, false}
 use Rattle.tables.specs.declared.Verdict.{Verdict}
@@ -64,26 +64,10 @@ pairCount (matches.Valid pairs) = pairs
 pairCount (matches.NotValid pairs) = pairs
 pairCount (NotMatched code place) = 0
 
--- the answer of a refusal, and of a search
-abbrev pub notJudged : Verdict → Membership
-notJudged Passed = No
-notJudged (Refused code place) = NotJudged code place
-
-abbrev pub notSought : Verdict → CommonName
-notSought Passed = None
-notSought (Refused code place) = NotSought code place
-
+-- the answer of a search
 abbrev pub commonName : Found → CommonName
 commonName (Name namespace local) = Least namespace local
 commonName Nothing = None
-
-abbrev pub notValidated : Verdict → Validation
-notValidated Passed = NotValid
-notValidated (Refused code place) = NotValidated code place
-
-abbrev pub notMatched : Verdict → Matches
-notMatched Passed = NotMatched 0 0
-notMatched (Refused code place) = NotMatched code place
 
 -- the answer where no code below 12 refuses
 abbrev pub matchesOf : Answer → Matches

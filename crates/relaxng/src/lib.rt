@@ -6,7 +6,8 @@ use tables::Verdict;
 ghost use mathlib.Core.Path.{_≡_};
 ghost use lib.ListN.{length};
 ghost use Rattle.tables.specs.Refusals.{Passes};
-ghost use Rattle.relaxng.specs.Answers.{notJudged, notSought, commonName, notValidated, notMatched, matchesOf, validationOf};
+ghost use Rattle.tables.specs.Tables.{stringTable, tablesOf};
+ghost use Rattle.relaxng.specs.Answers.{commonName, matchesOf};
 ghost use Rattle.relaxng.specs.Matching.{InstanceRefusal, GivesVerdict, ListsMatches};
 ghost use Rattle.relaxng.specs.Promises.{SchemaRefusal, NameInClass, LeastCommonName};
 
@@ -40,23 +41,13 @@ pub enum Matches {
 
 // Whether a schema keeps the simple form and the restrictions: codes 1 to 8.
 pub fn schema_verdict(bytes: &[u8], ends: &[u32], schema: &[u32]) -> Verdict
-    ensures { λ r. ⌜ SchemaRefusal (now (bytes .entry)) (now (ends .entry)) (now (schema .entry)) Passes r ⌝ }
+    ensures { λ r. ⌜ SchemaRefusal (stringTable (now (bytes .entry)) (now (ends .entry))) (now (schema .entry)) Passes r ⌝ }
 {
     let strings = strings::check_strings(bytes, ends);
     let Checked::Fine = strings else {
         return tables::refusal(1, strings);
     };
     restrictions::check_schema(ends.len(), schema)
-}
-
-// The refusal of a verdict, as an answer on membership; No where nothing is refused.
-fn not_judged(verdict: Verdict) -> Membership
-    ensures { λ r. ⌜ r ≡ notJudged verdict ⌝ }
-{
-    match verdict {
-        Verdict::Passed => Membership::No,
-        Verdict::Refused(code, place) => Membership::NotJudged(code, place),
-    }
 }
 
 // Whether a name is in the class at a row: codes 1 to 8, then 11.
@@ -68,11 +59,11 @@ pub fn name_in_class(
     namespace: u32,
     local: u32,
 ) -> Membership
-    ensures { λ r. ⌜ NameInClass (now (bytes .entry)) (now (ends .entry)) (now (schema .entry)) class namespace local r ⌝ }
+    ensures { λ r. ⌜ NameInClass (stringTable (now (bytes .entry)) (now (ends .entry))) (now (schema .entry)) class namespace local r ⌝ }
 {
     let verdict = schema_verdict(bytes, ends, schema);
     let Verdict::Passed = verdict else {
-        return not_judged(verdict);
+        return Membership::NotJudged(tables::code_of(verdict), tables::place_of(verdict));
     };
     if !schema::is_class_row(schema, class) {
         return Membership::NotJudged(11, class);
@@ -81,16 +72,6 @@ pub fn name_in_class(
         Membership::Yes
     } else {
         Membership::No
-    }
-}
-
-// The refusal of a verdict, as an answer on a common name; None where nothing is refused.
-fn not_sought(verdict: Verdict) -> CommonName
-    ensures { λ r. ⌜ r ≡ notSought verdict ⌝ }
-{
-    match verdict {
-        Verdict::Passed => CommonName::None,
-        Verdict::Refused(code, place) => CommonName::NotSought(code, place),
     }
 }
 
@@ -112,11 +93,11 @@ pub fn least_common_name(
     first: u32,
     second: u32,
 ) -> CommonName
-    ensures { λ r. ⌜ LeastCommonName (now (bytes .entry)) (now (ends .entry)) (now (schema .entry)) first second r ⌝ }
+    ensures { λ r. ⌜ LeastCommonName (stringTable (now (bytes .entry)) (now (ends .entry))) (now (schema .entry)) first second r ⌝ }
 {
     let verdict = schema_verdict(bytes, ends, schema);
     let Verdict::Passed = verdict else {
-        return not_sought(verdict);
+        return CommonName::NotSought(tables::code_of(verdict), tables::place_of(verdict));
     };
     if !schema::is_class_row(schema, first) {
         return CommonName::NotSought(11, first);
@@ -129,7 +110,7 @@ pub fn least_common_name(
 
 // Whether schema and instance keep their rules: codes 1 to 10.
 fn instance_verdict(bytes: &[u8], ends: &[u32], schema: &[u32], instance: &[u32]) -> Verdict
-    ensures { λ r. ⌜ InstanceRefusal (now (bytes .entry)) (now (ends .entry)) (now (schema .entry)) (now (instance .entry)) Passes r ⌝ }
+    ensures { λ r. ⌜ InstanceRefusal (tablesOf (stringTable (now (bytes .entry)) (now (ends .entry))) (now (schema .entry)) (now (instance .entry))) Passes r ⌝ }
 {
     let passed = schema_verdict(bytes, ends, schema);
     let Verdict::Passed = passed else {
@@ -142,40 +123,20 @@ fn instance_verdict(bytes: &[u8], ends: &[u32], schema: &[u32], instance: &[u32]
     tables::refusal(10, width::check_width(instance))
 }
 
-// The refusal of a verdict, as an answer on an instance; NotValid where nothing is refused.
-fn not_validated(verdict: Verdict) -> Validation
-    ensures { λ r. ⌜ r ≡ notValidated verdict ⌝ }
-{
-    match verdict {
-        Verdict::Passed => Validation::NotValid,
-        Verdict::Refused(code, place) => Validation::NotValidated(code, place),
-    }
-}
-
 // Whether the instance is valid by the schema: codes 1 to 10.
 pub fn verdict(bytes: &[u8], ends: &[u32], schema: &[u32], instance: &[u32]) -> Validation
-    ensures { λ r. ⌜ GivesVerdict (now (bytes .entry)) (now (ends .entry)) (now (schema .entry)) (now (instance .entry)) r ⌝ }
+    ensures { λ r. ⌜ GivesVerdict (tablesOf (stringTable (now (bytes .entry)) (now (ends .entry))) (now (schema .entry)) (now (instance .entry))) r ⌝ }
 {
     let passed = instance_verdict(bytes, ends, schema, instance);
     let Verdict::Passed = passed else {
-        return not_validated(passed);
+        return Validation::NotValidated(tables::code_of(passed), tables::place_of(passed));
     };
-    let mut pairs = [0u8; 524288];
+    let mut pairs = [0u8; instance::MAX_NODES * schema::MAX_ROWS];
     pairs::pair_table(bytes, ends, schema, instance, &mut pairs);
     if validity::valid(schema, &pairs) {
         Validation::Valid
     } else {
         Validation::NotValid
-    }
-}
-
-// The refusal of a verdict, as an answer on a match list; a refusal with code and place 0 where nothing is refused.
-fn not_matched(verdict: Verdict) -> Matches
-    ensures { λ r. ⌜ r ≡ notMatched verdict ⌝ }
-{
-    match verdict {
-        Verdict::Passed => Matches::NotMatched(0, 0),
-        Verdict::Refused(code, place) => Matches::NotMatched(code, place),
     }
 }
 
@@ -198,13 +159,13 @@ pub fn match_list(
     instance: &[u32],
     list: &mut [u32],
 ) -> Matches
-    ensures { λ r. ⌜ ListsMatches (now (bytes .entry)) (now (ends .entry)) (now (schema .entry)) (now (instance .entry)) (length (now (list .entry))) (now (list .exit)) r ⌝ }
+    ensures { λ r. ⌜ ListsMatches (tablesOf (stringTable (now (bytes .entry)) (now (ends .entry))) (now (schema .entry)) (now (instance .entry))) (length (now (list .entry))) (now (list .exit)) r ⌝ }
 {
     let passed = instance_verdict(bytes, ends, schema, instance);
     let Verdict::Passed = passed else {
         tables::zero_u32(list);
-        return not_matched(passed);
+        return Matches::NotMatched(tables::code_of(passed), tables::place_of(passed));
     };
-    let mut pairs = [0u8; 524288];
+    let mut pairs = [0u8; instance::MAX_NODES * schema::MAX_ROWS];
     matches_of(matches::match_pairs(bytes, ends, schema, instance, &mut pairs, list))
 }

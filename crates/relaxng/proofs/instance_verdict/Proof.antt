@@ -1,14 +1,8 @@
 -- A chain of the schema's verdict and two checks.
-use Rattle.relaxng.proofs.Matched.{instance-schema, nodes-stop, nodes-on}
+use Rattle.relaxng.proofs.Matched.{instance-schema, nodes-few, nodes-stop, nodes-on}
 use borrow.Author.Needs.{needs}
 use Rattle.relaxng.proofs.instance_verdict.Statement.{statement}
 use Rattle.relaxng.proofs.instance_verdict.Tie as tie
-use Rattle.relaxng.proofs.instance_verdict.Reads as reads
-use Rattle.relaxng.proofs.instance_verdict.Lts as lts
-use Rattle.nodes.proofs.check_nodes.Reads as check-nodes-reads
-use Rattle.width.proofs.check_width.Reads as check-width-reads
-use Rattle.relaxng.proofs.schema_verdict.Reads as schema-verdict-reads
-use Rattle.tables.proofs.refusal.Reads as refusal-reads
 
 schema-verdict-requires : tie.Need-schema-verdict-requires
 schema-verdict-requires c κs = search needs
@@ -38,13 +32,13 @@ returns-2 : tie.Need-returns-2
 returns-2 c = nodes-stop (c .before .before .before .before .enum-told .given .1) (c .before .before .before .before .before .before .schema-verdict .ensures) (c .before .before .before .check-nodes .ensures) (c .before .enum-told4 .given .1) (c .refusal .ensures)
 
 check-width-requires : tie.Need-check-width-requires
-check-width-requires c κs = search needs
+check-width-requires c κs = nodes-few _ _ (c .before .before .check-nodes .result) (c .before .before .check-nodes .ensures) (c .enum-told3 .given .1)
 
 refusal-requires-2 : tie.Need-refusal-requires-2
 refusal-requires-2 c κs = search needs
 
 returns-3 : tie.Need-returns-3
-returns-3 c = nodes-on (c .before .before .before .before .before .enum-told .given .1) (c .before .before .before .before .before .before .before .schema-verdict .ensures) (c .before .before .before .before .check-nodes .ensures) (c .before .before .enum-told3 .given .1) (c .before .check-width .ensures) (c .refusal2 .ensures)
+returns-3 c = nodes-on (c .before .check-width .result) (c .before .before .before .before .before .enum-told .given .1) (c .before .before .before .before .before .before .before .schema-verdict .ensures) (c .before .before .before .before .check-nodes .ensures) (c .before .before .enum-told3 .given .1) (c .before .check-width .ensures) (c .refusal2 .ensures)
 
 pub instance-verdict-spec : {M : Type 1} → statement M
 instance-verdict-spec =

@@ -1,18 +1,11 @@
+-- Codes 1 to 10 leave zeros; then the list and code 12 are told of the tables, which pass.
 use Prim.Native.Nat.{ℕ}
-use mathlib.Core.Path.{sym, _∙_, ap}
+use mathlib.Core.Path.{refl, sym}
 use lib.ListN.{length-replicate}
-use Rattle.relaxng.specs.Answers.{notMatched}
-use Rattle.relaxng.proofs.Matched.{whole-table, refused-list, whole-list}
+use Rattle.relaxng.proofs.Matched.{whole-table, pairable, refused-list, whole-list}
 use borrow.Author.Needs.{needs}
 use Rattle.relaxng.proofs.match_list.Statement.{statement}
 use Rattle.relaxng.proofs.match_list.Tie as tie
-use Rattle.relaxng.proofs.match_list.Reads as reads
-use Rattle.relaxng.proofs.match_list.Lts as lts
-use Rattle.matches.proofs.match_pairs.Reads as match-pairs-reads
-use Rattle.relaxng.proofs.instance_verdict.Reads as instance-verdict-reads
-use Rattle.relaxng.proofs.matches_of.Reads as matches-of-reads
-use Rattle.relaxng.proofs.not_matched.Reads as not-matched-reads
-use Rattle.tables.proofs.zero_u32.Reads as zero-u32-reads
 
 instance-verdict-requires : tie.Need-instance-verdict-requires
 instance-verdict-requires c κs = search needs
@@ -26,20 +19,23 @@ enum-told-2 c = search needs
 zero-u32-requires : tie.Need-zero-u32-requires
 zero-u32-requires c κs = search needs
 
-not-matched-requires : tie.Need-not-matched-requires
-not-matched-requires c κs = search needs
+code-of-requires : tie.Need-code-of-requires
+code-of-requires c κs = search needs
+
+place-of-requires : tie.Need-place-of-requires
+place-of-requires c κs = search needs
 
 same-length : tie.Need-same-length
-same-length c = c .before .before .list .given
+same-length c = c .before .before .before .list .given
 
 returns : tie.Need-returns
-returns c = refused-list (c .before .before .before .before .before .before .before .instance-verdict .ensures) _ (c .before .before .before .before .before .enum-told2 .given .1) (c .not-matched .ensures ∙ ap notMatched (c .before .before .before .before .before .enum-told2 .given .1)) (c .before .before .before .zero-u32 .ensures)
+returns c = refused-list (c .before .before .before .before .before .before .before .before .instance-verdict .ensures) _ (c .before .before .before .before .before .before .enum-told2 .given .1) (c .before .code-of .ensures) (c .place-of .ensures) refl (c .before .before .before .before .zero-u32 .ensures)
 
 slice-aggregate-match-pairs : tie.Need-slice-aggregate-match-pairs
 slice-aggregate-match-pairs c = sym (length-replicate {A = ℕ} 524288 0)
 
 match-pairs-requires : tie.Need-match-pairs-requires
-match-pairs-requires c κs = search needs
+match-pairs-requires c κs = pairable (c .before .before .enum-told .given .1) (c .before .before .before .before .instance-verdict .ensures) whole-table
 
 matches-of-requires : tie.Need-matches-of-requires
 matches-of-requires c κs = search needs
@@ -48,7 +44,7 @@ same-length-2 : tie.Need-same-length-2
 same-length-2 c = c .before .before .list2 .given
 
 returns-2 : tie.Need-returns-2
-returns-2 c = whole-list (c .before .before .before .before .before .before .before .before .before .instance-verdict .ensures) _ (c .before .before .before .before .before .before .before .enum-told .given .1) (c .before .before .before .before .match-pairs .result) (λ p. c .before .before .before .before .match-pairs .ensures whole-table p) (c .matches-of .ensures)
+returns-2 c = whole-list (c .before .before .before .before .before .before .before .before .before .instance-verdict .ensures) _ (c .before .before .before .before .before .before .before .enum-told .given .1) (c .before .before .before .before .match-pairs .result) (c .before .before .before .before .match-pairs .ensures .0) (c .matches-of .ensures)
 
 pub match-list-spec : {M : Type 1} → statement M
 match-list-spec =
@@ -58,7 +54,8 @@ match-list-spec =
     enum-told
     enum-told-2
     zero-u32-requires
-    not-matched-requires
+    code-of-requires
+    place-of-requires
     same-length
     returns
     slice-aggregate-match-pairs
