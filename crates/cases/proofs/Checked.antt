@@ -8,12 +8,13 @@ use native.Mathlib.Omega.{arith}
 use lib.Dec.{eqb, ltb}
 use lib.ListN.{length}
 use borrow.Author.Tests.{eqb-true, ltb-true}
+use Rattle.tables.specs.Tables.{StringTable}
 use Rattle.tables.specs.Refusals.{goes-on, Passes}
 use Rattle.tables.specs.declared.Verdict.the-variants.{Passed}
 use Rattle.schema.specs.Rows as schema
 use Rattle.schema.proofs.RowLaws.{in-table, right-size}
 use Rattle.schema.proofs.Sorts.{definition-kind}
-use Rattle.strings.specs.Strings.{StringsRight}
+use Rattle.strings.specs.Strings.{StringsRight, schemaStrings, instanceStrings}
 use Rattle.instance.specs.Nodes.{nodesOf}
 use Rattle.instance.specs.NodeRule.{NodesRight}
 use Rattle.instance.proofs.Size.{some-node}
@@ -26,7 +27,7 @@ use Rattle.rules.specs.Listed.{Precedes, Rising, rising-none, rising-one, risin
 use Rattle.rules.specs.Rules.{Proved, NotMatchBy}
 use Rattle.tables.proofs.Booleans.{or-either, and-left, and-right}
 use Rattle.rules.proofs.Inversion.{against}
-use Rattle.cases.specs.Meaning.{Expected, matches, least, refused, Row, IsValid, NotRefused, Matching, Says, Holds, AllHold, none-left, holds}
+use Rattle.cases.specs.Meaning.{tablesAt, Expected, matches, least, refused, Row, IsValid, NotRefused, Matching, Says, Holds, AllHold, none-left, holds}
 use Rattle.cases.proofs.Tests.{everyBelow, every-below, no-of}
 use Rattle.cases.proofs.ClassTests.{leastTest, least-test}
 use Rattle.cases.proofs.InstanceTests.{nodesTest, nodes-right, widthTest, not-wide}
@@ -86,7 +87,7 @@ module _ (r : Row) where
   t = r .instance
 
   abbrev paired : ℕ → ℕ → Bool
-  paired = pairTest (r .bytes) (r .ends) (r .schema) (r .instance) (nodesOf (r .instance))
+  paired = pairTest (tablesAt r) (nodesOf (r .instance))
 
   -- what the list says is so, and what is so the list says
   abbrev soundTest : ℕ → ℕ → Bool
@@ -99,11 +100,11 @@ module _ (r : Row) where
   allListed pairs = everyBelow (λ e. everyBelow (completeTest pairs e) (schema.rowsOf s)) (nodesOf t)
 
   abbrev validIs : Bool → Bool
-  validIs true = validTest (r .bytes) (r .ends) s t
-  validIs false = not (validTest (r .bytes) (r .ends) s t)
+  validIs true = validTest (tablesAt r)
+  validIs false = not (validTest (tablesAt r))
 
   abbrev jobTest : Bool
-  jobTest = passTest (r .bytes) (r .ends) s && (nodesTest (length (r .ends)) t && widthTest (length (r .ends)) t)
+  jobTest = passTest (tablesAt r .strings) s && (nodesTest (instanceStrings (tablesAt r .strings)) t && widthTest (instanceStrings (tablesAt r .strings)) t)
 
   abbrev listTest : List (ℕ × ℕ) → Bool
   listTest pairs = risingTest pairs && (everyPair soundTest pairs && allListed pairs)
@@ -112,22 +113,22 @@ module _ (r : Row) where
   matchesTest pairs valid = jobTest && (listTest pairs && validIs valid)
 
   -- from the verdict on the tables
-  strings-of : {bytes ends s : List ℕ} → SchemaRefusal bytes ends s Passes Passed → StringsRight bytes ends
+  strings-of : {T : StringTable} {s : List ℕ} → SchemaRefusal T s Passes Passed → StringsRight T
   strings-of (goes-on strings x) = strings
 
-  passes-of : {bytes ends s : List ℕ} → SchemaRefusal bytes ends s Passes Passed → SchemaPasses (length ends) s
+  passes-of : {T : StringTable} {s : List ℕ} → SchemaRefusal T s Passes Passed → SchemaPasses (schemaStrings T) s
   passes-of (goes-on strings x) = passes x
 
-  module _ (refusal : NotRefused r) (nodes : NodesRight (length (r .ends)) t) where
-    proved-iff : (e d : ℕ) → e < nodesOf t → (paired e d ≡ true) ↔ Proved (lookups (r .bytes) (r .ends) s t) e d
+  module _ (refusal : NotRefused r) (nodes : NodesRight (instanceStrings (tablesAt r .strings)) t) where
+    proved-iff : (e d : ℕ) → e < nodesOf t → (paired e d ≡ true) ↔ Proved (lookups (tablesAt r)) e d
     proved-iff e d h =
-        Iff·trans (pair-decided (r .bytes) (r .ends) s t (strings-of refusal) (passes-of refusal) nodes (nodesOf t) e d h (omega arith))
-        (Iff·symm (against (lookups (r .bytes) (r .ends) s t) (NotMatchBy (lookups (r .bytes) (r .ends) s t) (schema.rowsOf s)) e d))
+        Iff·trans (pair-decided (tablesAt r) (strings-of refusal) (passes-of refusal) nodes (nodesOf t) e d h (omega arith))
+        (Iff·symm (against (lookups (tablesAt r)) (NotMatchBy (lookups (tablesAt r)) (schema.rowsOf s)) e d))
 
-    lists : (pairs : List (ℕ × ℕ)) → everyPair soundTest pairs ≡ true → allListed pairs ≡ true → Lists (Pair (r .bytes) (r .ends) s t) pairs
+    lists : (pairs : List (ℕ × ℕ)) → everyPair soundTest pairs ≡ true → allListed pairs ≡ true → Lists (Pair (tablesAt r)) pairs
     lists pairs f g = record { sound = sound; complete = complete }
       where
-        sound : (e d : ℕ) → List·Memᴰ (e, d) pairs → Pair (r .bytes) (r .ends) s t e d
+        sound : (e d : ℕ) → List·Memᴰ (e, d) pairs → Pair (tablesAt r) e d
         sound e d m =
             let h = every-pair soundTest pairs f e d m in
             let l = ltb-true e (nodesOf t) (and-left (ltb e (nodesOf t)) (isElement t e && paired e d) h) in
@@ -139,18 +140,18 @@ module _ (r : Row) where
         go e d true false i j h = absurd (false≢true j)
         go e d false b i j h = absurd (false≢true i)
 
-        complete : (e d : ℕ) → Pair (r .bytes) (r .ends) s t e d → List·Memᴰ (e, d) pairs
+        complete : (e d : ℕ) → Pair (tablesAt r) e d → List·Memᴰ (e, d) pairs
         complete e d p =
-            let q = against (lookups (r .bytes) (r .ends) s t) (NotMatchBy (lookups (r .bytes) (r .ends) s t) (schema.rowsOf s)) e d .0 (p .2) in
+            let q = against (lookups (tablesAt r)) (NotMatchBy (lookups (tablesAt r)) (schema.rowsOf s)) e d .0 (p .2) in
             let k = definition-kind s d (q .defined) in
             let l = in-table (right-size (passes-of refusal .rows)) {r = d} (λ z. omega (arith, k, z)) in
             let h = every-below (completeTest pairs e) (schema.rowsOf s) (every-below (λ e. everyBelow (completeTest pairs e) (schema.rowsOf s)) (nodesOf t) g e (p .0)) d l in
             listed-test e d pairs (go e d (isElement t e) (paired e d) (p .1) (proved-iff e d (p .0) .1 (p .2)) h)
 
-    valid-is : (valid : Bool) → validIs valid ≡ true → IsValid valid (r .bytes) (r .ends) s t
-    valid-is valid h = go valid h (valid-decided (r .bytes) (r .ends) s t (strings-of refusal) (passes-of refusal) nodes (some-node nodes))
+    valid-is : (valid : Bool) → validIs valid ≡ true → IsValid valid (tablesAt r)
+    valid-is valid h = go valid h (valid-decided (tablesAt r) (strings-of refusal) (passes-of refusal) nodes (some-node nodes))
       where
-        go : (valid : Bool) → validIs valid ≡ true → (validTest (r .bytes) (r .ends) s t ≡ true) ↔ Valid (r .bytes) (r .ends) s t → IsValid valid (r .bytes) (r .ends) s t
+        go : (valid : Bool) → validIs valid ≡ true → (validTest (tablesAt r) ≡ true) ↔ Valid (tablesAt r) → IsValid valid (tablesAt r)
         go true h f = f .0 h
         go false h f = λ v. no-of h (f .1 v)
 
@@ -158,7 +159,7 @@ module _ (r : Row) where
   matching pairs valid h = record {
     schema-passes = refusal;
     nodes-right = nodes;
-    not-wide = not-wide (length (r .ends)) t (and-right (nodesTest (length (r .ends)) t) (widthTest (length (r .ends)) t) instance-pass);
+    not-wide = not-wide (instanceStrings (tablesAt r .strings)) t (and-right (nodesTest (instanceStrings (tablesAt r .strings)) t) (widthTest (instanceStrings (tablesAt r .strings)) t) instance-pass);
     rising = rising-test pairs (and-left (risingTest pairs) (everyPair soundTest pairs && allListed pairs) list);
     listed = lists refusal nodes pairs (and-left (everyPair soundTest pairs) (allListed pairs) members) (and-right (everyPair soundTest pairs) (allListed pairs) members);
     validity = valid-is refusal nodes valid (and-right (listTest pairs) (validIs valid) rest);
@@ -170,8 +171,8 @@ module _ (r : Row) where
       rest : (listTest pairs && validIs valid) ≡ true
       rest = and-right jobTest (listTest pairs && validIs valid) h
 
-      instance-pass : (nodesTest (length (r .ends)) t && widthTest (length (r .ends)) t) ≡ true
-      instance-pass = and-right (passTest (r .bytes) (r .ends) s) (nodesTest (length (r .ends)) t && widthTest (length (r .ends)) t) tables
+      instance-pass : (nodesTest (instanceStrings (tablesAt r .strings)) t && widthTest (instanceStrings (tablesAt r .strings)) t) ≡ true
+      instance-pass = and-right (passTest (tablesAt r .strings) s) (nodesTest (instanceStrings (tablesAt r .strings)) t && widthTest (instanceStrings (tablesAt r .strings)) t) tables
 
       list : listTest pairs ≡ true
       list = and-left (listTest pairs) (validIs valid) rest
@@ -180,25 +181,25 @@ module _ (r : Row) where
       members = and-right (risingTest pairs) (everyPair soundTest pairs && allListed pairs) list
 
       refusal : NotRefused r
-      refusal = schema-passes (r .bytes) (r .ends) s (and-left (passTest (r .bytes) (r .ends) s) (nodesTest (length (r .ends)) t && widthTest (length (r .ends)) t) tables)
+      refusal = schema-passes (tablesAt r .strings) s (and-left (passTest (tablesAt r .strings) s) (nodesTest (instanceStrings (tablesAt r .strings)) t && widthTest (instanceStrings (tablesAt r .strings)) t) tables)
 
-      nodes : NodesRight (length (r .ends)) t
-      nodes = nodes-right (length (r .ends)) t (and-left (nodesTest (length (r .ends)) t) (widthTest (length (r .ends)) t) instance-pass)
+      nodes : NodesRight (instanceStrings (tablesAt r .strings)) t
+      nodes = nodes-right (instanceStrings (tablesAt r .strings)) t (and-left (nodesTest (instanceStrings (tablesAt r .strings)) t) (widthTest (instanceStrings (tablesAt r .strings)) t) instance-pass)
 
   abbrev leastIs : ℕ → ℕ → ℕ → ℕ → Bool
-  leastIs c d u l = passTest (r .bytes) (r .ends) s && leastTest (length (r .ends)) s c d u l
+  leastIs c d u l = passTest (tablesAt r .strings) s && leastTest (instanceStrings (tablesAt r .strings)) s c d u l
 
   abbrev expectedTest : Expected → Bool
   expectedTest (matches pairs valid) = matchesTest pairs valid
   expectedTest (least c d u l) = leastIs c d u l
-  expectedTest (refused code place) = refusedTest (r .bytes) (r .ends) s code place
+  expectedTest (refused code place) = refusedTest (tablesAt r .strings) s code place
 
   says : (x : Expected) → expectedTest x ≡ true → Says r x
   says (matches pairs valid) h = matching pairs valid h
   says (least c d u l) h =
-      let p = and-left (passTest (r .bytes) (r .ends) s) (leastTest (length (r .ends)) s c d u l) h in
-      (schema-passes (r .bytes) (r .ends) s p, least-test (length (r .ends)) s c d u l (schema-rows (r .bytes) (r .ends) s p) (and-right (passTest (r .bytes) (r .ends) s) (leastTest (length (r .ends)) s c d u l) h))
-  says (refused code place) h = schema-refused (r .bytes) (r .ends) s code place h
+      let p = and-left (passTest (tablesAt r .strings) s) (leastTest (instanceStrings (tablesAt r .strings)) s c d u l) h in
+      (schema-passes (tablesAt r .strings) s p, least-test (instanceStrings (tablesAt r .strings)) s c d u l (schema-rows (tablesAt r .strings) s p) (and-right (passTest (tablesAt r .strings) s) (leastTest (instanceStrings (tablesAt r .strings)) s c d u l) h))
+  says (refused code place) h = schema-refused (tablesAt r .strings) s code place h
 
 -- the test of a row, and of a table
 unfoldable pub check : Row → Bool

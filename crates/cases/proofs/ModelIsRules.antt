@@ -25,7 +25,7 @@ use Rattle.rules.specs.Reach.{Part, operand, of-attribute, of-except, repeated,
 use Rattle.rules.proofs.Repeats.{distinct-part, span-oneOrMore, span-oneOrMore-attributes}
 use Rattle.rules.specs.Restricted.{Restricted}
 use Rattle.rules.proofs.Sequences.{hasElement, first}
-use Rattle.rules.proofs.Spans.{ItemsOnly, span-whole, span-nowhere, span-notAllowed, span-noPattern, span-empty, span-text, span-value, span-dataAll, span-dataExcept, OnePaired, span-ref, span-attribute, span-choice}
+use Rattle.rules.proofs.Spans.{ItemsOnly, span-whole, span-nowhere, span-notAllowed, span-noPattern, span-empty, span-text, items-only, OnePaired, span-ref, span-attribute, span-choice}
 use Rattle.rules.proofs.Strata.{not-match}
 use Rattle.cases.proofs.Tests.{someBelow, some-below, below-some}
 use Rattle.cases.proofs.ReachTests.{test-reach, reach-test}
@@ -221,18 +221,18 @@ module _ (L : Lookups) (R : Restricted L) (N : ℕ) (equal : ℕ → List ℕ �
       kind-decided l pattern.notAllowed e = (λ h. absurd (false≢true h), λ s. absurd (span-notAllowed L Not A it K p i j e s))
       kind-decided l pattern.text e = Iff·trans (items-decided (not (hasElement items)) (λ m. hasElement m ≡ false) (is-false-iff (hasElement items))) (Iff·symm (span-text L Not A it K p i j e))
       kind-decided l (pattern.dataAll t) e =
-          Iff·trans (items-decided (oneItem (onString (λ s. true)) items) (One (λ s. Unit {0})) (one-string (λ s. true) (λ s. Unit {0}) (λ s. (λ h. tt, λ h. refl)) items)) (Iff·symm (span-dataAll L Not A it K p i j e))
+          Iff·trans (items-decided (oneItem (onString (λ s. true)) items) (One (λ s. Unit {0})) (one-string (λ s. true) (λ s. Unit {0}) (λ s. (λ h. tt, λ h. refl)) items)) (Iff·symm (items-only L Not A it K p i j (pattern.dataAll t) (One (λ s. Unit {0})) Iff·rfl e))
       kind-decided l (pattern.dataExcept t q) e =
           Iff·trans
           (items-decided (oneItem (onString (λ s. not (stringTest rec none q s))) items) (One (λ s. Not s q)) (one-string (λ s. not (stringTest rec none q s)) (λ s. Not s q) excepted items))
-          (Iff·symm (span-dataExcept L Not A it K p i j e))
+          (Iff·symm (items-only L Not A it K p i j (pattern.dataExcept t q) (One (λ s. Not s q)) Iff·rfl e))
         where
           excepted : (s : List ℕ) → (not (stringTest rec none q s) ≡ true) ↔ Not s q
           excepted s = Iff·trans (not-decides (stringTest rec none q s) (string-decided none no-attributes no-twins q s (part q e of-except l))) (Iff·symm (not-match R p t q e s))
       kind-decided l (pattern.value t k) e =
           Iff·trans
           (items-decided (oneItem (onString (λ s. equal t s (L .text k))) items) (One (λ s. L .Equal t s (L .text k))) (one-string (λ s. equal t s (L .text k)) (λ s. L .Equal t s (L .text k)) (λ s. equals t s (L .text k)) items))
-          (Iff·symm (span-value L Not A it K p i j e))
+          (Iff·symm (items-only L Not A it K p i j (pattern.value t k) (One (λ s. L .Equal t s (L .text k))) Iff·rfl e))
       kind-decided l (pattern.attribute nc q) e = Iff·trans (attribute-decided nc q (part q e of-attribute l)) (Iff·symm (span-attribute L Not A it K p i j e))
       kind-decided l (pattern.ref d) e =
           Iff·trans

@@ -6,7 +6,8 @@ use mathlib.Core.List.{List, [], _∷_, List·Memᴰ, List·Memᴰ·head, List·
 use mathlib.Core.Logic.{inl, inr, _↔_, Iff·trans, Iff·symm, Iff·rfl}
 use native.Mathlib.Omega.{arith}
 use lib.ListN.{length, getD}
-use Rattle.strings.specs.Strings.{StringsRight}
+use Rattle.tables.specs.Tables.{Tables}
+use Rattle.strings.specs.Strings.{StringsRight, schemaStrings, instanceStrings}
 use Rattle.datatypes.specs.Whitespace.{normalizeWhiteSpace}
 use Rattle.schema.specs.Kinds as kind
 use Rattle.schema.specs.Rows.{shapeOf}
@@ -66,9 +67,15 @@ module _ (L : Lookups) where
   abbrev weakTest : Test → Attributes → ℕ → List Item → Bool
   weakTest rec A p m = elim (hasElement m) [ true ↦ rec (itemAt m) A (λ k. notWhitespace L (itemAt m k)) p 0 (length m) | false ↦ bareTest rec A p m ]
 
-module _ (bytes ends s t : List ℕ) where
+module _ (J : Tables) where
+  abbrev s : List ℕ
+  s = J .schema
+
+  abbrev t : List ℕ
+  t = J .instance
+
   abbrev L : Lookups
-  L = lookups bytes ends s t
+  L = lookups J
 
   abbrev Not : List ℕ → ℕ → Type 0
   Not = NotMatchBy L (L .rows)
@@ -83,11 +90,11 @@ module _ (bytes ends s t : List ℕ) where
       elim (L .isDefinition d && L .inClass (L .nameClass d) e) [ true ↦ weakTest L (matchTest (pairTest n)) (L .attributes e) (L .content d) (L .children e) | false ↦ false ]
 
   unfoldable pub validTest : Bool
-  validTest = matchTest (pairTest (nodesOf t)) (λ k. element 0) none all (schema.aOf s (startRow bytes ends s t)) 0 1
+  validTest = matchTest (pairTest (nodesOf t)) (λ k. element 0) none all (schema.aOf s (startRow J)) 0 1
 
-  module _ (strings : StringsRight bytes ends) (pass : SchemaPasses (length ends) s) (nodes : NodesRight (length ends) t) where
+  module _ (strings : StringsRight (J .strings)) (pass : SchemaPasses (schemaStrings (J .strings)) s) (nodes : NodesRight (instanceStrings (J .strings)) t) where
     R : Restricted L
-    R = restricted pass bytes ends t
+    R = restricted J pass
 
     module _ (pair : ℕ → ℕ → Bool) where
       abbrev FitsHere : (ℕ → Item) → Attributes → (ℕ → Bool) → Type 0
@@ -108,7 +115,7 @@ module _ (bytes ends s t : List ℕ) where
           bound = bound;
           distinct = distinct;
           clean = stripped-clean L (itemAt (L .children e)) (λ k. notWhitespace L (itemAt (L .children e) k)) (λ k m. m);
-          known = λ k x d i. let c = child-element strings nodes s e x h (item-member (L .children e) k x i) in known x d (c .0) (c .1);
+          known = λ k x d i. let c = child-element J strings nodes e x h (item-member (L .children e) k x i) in known x d (c .0) (c .1);
         }
 
         abbrev Bare : List Item → Type 0
@@ -135,7 +142,7 @@ module _ (bytes ends s t : List ℕ) where
         weak-decided = go (hasElement (L .children e)) refl
           where
             ok : OkAsChildren (L .children e)
-            ok = children-ok strings nodes s e
+            ok = children-ok J strings nodes e
 
             go : (b : Bool) → hasElement (L .children e) ≡ b
                 → (elim b [
@@ -157,7 +164,7 @@ module _ (bytes ends s t : List ℕ) where
     content-row d h =
         let k = definition-kind s d h in
         let i = in-table (right-size (pass .rows)) {r = d} (λ z. omega (arith, k, z)) in
-        let c = child-less {s = s} {p = d} (by-b (pattern-b (length ends) s (pass .rows) d i kind.element k refl .0) refl) in
+        let c = child-less {s = s} {p = d} (by-b (pattern-b (schemaStrings (J .strings)) s (pass .rows) d i kind.element k refl .0) refl) in
         omega arith
 
     pub pair-decided : (n e d : ℕ) → e < nodesOf t → nodesOf t - e ≤ n → (pairTest n e d ≡ true) ↔ Paired L Not e d
@@ -170,17 +177,17 @@ module _ (bytes ends s t : List ℕ) where
         go true f known =
             let a = and-left (L .isDefinition d) (L .inClass (L .nameClass d) e) f in
             let w = weak-decided (pairTest n) e h known (L .content d) (content-row d a) in (
-              λ i. record { defined = a; ordered = children-ok strings nodes s e; named = and-right (L .isDefinition d) (L .inClass (L .nameClass d) e) f; content = w .0 i },
+              λ i. record { defined = a; ordered = children-ok J strings nodes e; named = and-right (L .isDefinition d) (L .inClass (L .nameClass d) e) f; content = w .0 i },
               λ q. w .1 (q .content),
             )
         go false f known = (λ i. absurd (false≢true i), λ q. absurd (true≢false (sym (both-and (q .defined) (q .named)) ∙ f)))
 
-    pub valid-decided : 0 < nodesOf t → (validTest ≡ true) ↔ Valid bytes ends s t
+    pub valid-decided : 0 < nodesOf t → (validTest ≡ true) ↔ Valid J
     unfolding validTest run
     valid-decided h =
         let c = child-less (start-child pass) in
-        Iff·trans (decided (pairTest (nodesOf t)) (λ k. element 0) none all (schema.aOf s (startRow bytes ends s t)) 0 1 (omega arith) root-fits)
-        (span-whole L Not none (λ k. element 0) all (schema.aOf s (startRow bytes ends s t)) 1 refl)
+        Iff·trans (decided (pairTest (nodesOf t)) (λ k. element 0) none all (schema.aOf s (startRow J)) 0 1 (omega arith) root-fits)
+        (span-whole L Not none (λ k. element 0) all (schema.aOf s (startRow J)) 1 refl)
       where
         clash : {x : List ℕ} → element 0 ≡ string x → ⊥
         clash x = let z : _≡_ {A = ℕ} 0 1 = cc in omega arith

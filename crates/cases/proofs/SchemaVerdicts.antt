@@ -6,11 +6,12 @@ use mathlib.Core.List.{List}
 use lib.Dec.{eqb}
 use lib.ListN.{length}
 use borrow.Author.Tests.{eqb-true}
+use Rattle.tables.specs.Tables.{StringTable}
 use Rattle.tables.specs.Answers.{Decides, Clear}
 use Rattle.tables.specs.Refusals.{Tries, refused, goes-on, Passes}
 use Rattle.tables.specs.declared.Verdict.{Verdict}
 use Rattle.tables.specs.declared.Verdict.the-variants.{Passed, Refused}
-use Rattle.strings.specs.Strings.{StringFault, StringsRight}
+use Rattle.strings.specs.Strings.{StringFault, StringsRight, schemaStrings}
 use Rattle.schema.specs.Rows.{rowsOf}
 use Rattle.schema.specs.RowRule.{RowFault, RowsRight}
 use Rattle.schema.proofs.RowLaws.{right-size}
@@ -30,9 +31,9 @@ use Rattle.cases.proofs.PlaceTests.{rowsTest, rows-right, placesTest, p
 use Rattle.cases.proofs.ContentTests.{clashTest, clash-test}
 use Rattle.cases.proofs.RestrictionTests.{attributesTest, attributes-right, duplicateTest, attribute-fault, interleaveTest, interleave-right, interleave-fault}
 
-module _ (bytes ends s : List ℕ) where
+module _ (T : StringTable) (s : List ℕ) where
   abbrev strings : ℕ
-  strings = length ends
+  strings = schemaStrings T
 
   abbrev noClash : ℕ → Bool
   noClash r = not (clashTest s r)
@@ -42,7 +43,7 @@ module _ (bytes ends s : List ℕ) where
 
   -- codes 1 and 2, and 3 to 5, find no fault
   abbrev tablesTest : Bool
-  tablesTest = stringsTest bytes ends && rowsTest strings s
+  tablesTest = stringsTest T && rowsTest strings s
 
   abbrev pathTests : Bool
   pathTests = namesTest s && pathsTest s
@@ -74,15 +75,15 @@ module _ (bytes ends s : List ℕ) where
         ]
       ]
 
-  strings-pass : placed ≡ true → StringsRight bytes ends
-  strings-pass pass = strings-right bytes ends (and-left (stringsTest bytes ends) (rowsTest strings s) (and-left tablesTest (placesTest s && pathTests) pass))
+  strings-pass : placed ≡ true → StringsRight T
+  strings-pass pass = strings-right T (and-left (stringsTest T) (rowsTest strings s) (and-left tablesTest (placesTest s && pathTests) pass))
 
   rows-pass : placed ≡ true → RowsRight strings s
-  rows-pass pass = rows-right strings s (and-right (stringsTest bytes ends) (rowsTest strings s) (and-left tablesTest (placesTest s && pathTests) pass))
+  rows-pass pass = rows-right strings s (and-right (stringsTest T) (rowsTest strings s) (and-left tablesTest (placesTest s && pathTests) pass))
 
   -- codes 1 to 5 go on
   goes-placed : {next : Verdict → Type 0} {v : Verdict} → placed ≡ true → Tries 6 (SequenceFault s) next v
-      → Tries 1 (StringFault bytes ends) (Tries 2 (RowFault strings s) (Tries 3 (PlaceFault s) (Tries 4 (NameFault s) (Tries 5 (PathFault s) (Tries 6 (SequenceFault s) next))))) v
+      → Tries 1 (StringFault T) (Tries 2 (RowFault strings s) (Tries 3 (PlaceFault s) (Tries 4 (NameFault s) (Tries 5 (PathFault s) (Tries 6 (SequenceFault s) next))))) v
   goes-placed pass rest =
       let right = rows-pass pass in
       let places = and-right tablesTest (placesTest s && pathTests) pass in
@@ -141,14 +142,14 @@ module _ (bytes ends s : List ℕ) where
   unfolding passTest
   schema-rows pass = right-8 (rowsOf s) pass
 
-  pub schema-passes : passTest ≡ true → SchemaRefusal bytes ends s Passes Passed
+  pub schema-passes : passTest ≡ true → SchemaRefusal T s Passes Passed
   unfolding passTest
   schema-passes pass =
       let a = attributed-of (rowsOf s) pass in
       goes-placed (placed-7 (rowsOf s) a) (goes-on (none-6 (rowsOf s) a) (goes-on (none-7 (rowsOf s) pass)
       (goes-on (λ r f. clear-8 (rowsOf s) pass r (interleave-row (right-size (right-8 (rowsOf s) pass)) f) f) refl)))
 
-  refused-6 : (r : ℕ) → (sequenced r && clashTest s r) ≡ true → SchemaRefusal bytes ends s Passes (Refused 6 r)
+  refused-6 : (r : ℕ) → (sequenced r && clashTest s r) ≡ true → SchemaRefusal T s Passes (Refused 6 r)
   refused-6 r e = goes-placed (placed-of r pass) (refused r (go (clashTest s r) (clash-test s (right-size (rows-pass (placed-of r pass))) r) (and-right (sequenced r) (clashTest s r) e)) (clear-6 r pass))
     where
       pass : sequenced r ≡ true
@@ -158,23 +159,23 @@ module _ (bytes ends s : List ℕ) where
       go true d i = d
       go false d i = absurd (false≢true i)
 
-  refused-7 : (r : ℕ) → (attributed r && duplicateTest strings s r) ≡ true → SchemaRefusal bytes ends s Passes (Refused 7 r)
+  refused-7 : (r : ℕ) → (attributed r && duplicateTest strings s r) ≡ true → SchemaRefusal T s Passes (Refused 7 r)
   refused-7 r e =
       let pass = and-left (attributed r) (duplicateTest strings s r) e in
       goes-placed (placed-7 r pass) (goes-on (none-6 r pass) (refused r (attribute-fault strings s r (and-right (attributed r) (duplicateTest strings s r) e)) (clear-7 r pass)))
 
-  refused-8 : (r : ℕ) → (interleaved r && interleaveTest strings s r) ≡ true → SchemaRefusal bytes ends s Passes (Refused 8 r)
+  refused-8 : (r : ℕ) → (interleaved r && interleaveTest strings s r) ≡ true → SchemaRefusal T s Passes (Refused 8 r)
   refused-8 r e =
       let pass = and-left (interleaved r) (interleaveTest strings s r) e in
       let a = attributed-of r pass in
       goes-placed (placed-7 (rowsOf s) a) (goes-on (none-6 (rowsOf s) a) (goes-on (none-7 r pass) (refused r (interleave-fault strings s r (and-right (interleaved r) (interleaveTest strings s r) e)) (clear-8 r pass))))
 
-  pub schema-refused : (code r : ℕ) → refusedTest code r ≡ true → SchemaRefusal bytes ends s Passes (Refused code r)
+  pub schema-refused : (code r : ℕ) → refusedTest code r ≡ true → SchemaRefusal T s Passes (Refused code r)
   unfolding refusedTest
   schema-refused code r = go (eqb code 6) refl (eqb code 7) refl (eqb code 8) refl
     where
-      named : (n : ℕ) → eqb code n ≡ true → SchemaRefusal bytes ends s Passes (Refused n r) → SchemaRefusal bytes ends s Passes (Refused code r)
-      named n e v = subst (λ (k : ℕ). SchemaRefusal bytes ends s Passes (Refused k r)) (sym (eqb-true code n e)) v
+      named : (n : ℕ) → eqb code n ≡ true → SchemaRefusal T s Passes (Refused n r) → SchemaRefusal T s Passes (Refused code r)
+      named n e v = subst (λ (k : ℕ). SchemaRefusal T s Passes (Refused k r)) (sym (eqb-true code n e)) v
 
       go : (a : Bool) → eqb code 6 ≡ a → (b : Bool) → eqb code 7 ≡ b → (c : Bool) → eqb code 8 ≡ c
           → elim a [
@@ -183,7 +184,7 @@ module _ (bytes ends s : List ℕ) where
               | true ↦ attributed r && duplicateTest strings s r
               | false ↦ elim c [ true ↦ interleaved r && interleaveTest strings s r | false ↦ false ]
             ]
-          ] ≡ true → SchemaRefusal bytes ends s Passes (Refused code r)
+          ] ≡ true → SchemaRefusal T s Passes (Refused code r)
       go true f b g c h e = named 6 f (refused-6 r e)
       go false f true g c h e = named 7 g (refused-7 r e)
       go false f false g true h e = named 8 h (refused-8 r e)

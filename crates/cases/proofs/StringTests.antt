@@ -7,6 +7,7 @@ use native.Mathlib.Omega.{arith}
 use lib.Dec.{eqb, ltb}
 use lib.ListN.{length}
 use borrow.Author.Tests.{eqb-true, eq-eqb, lt-ltb, ltb-true}
+use Rattle.tables.specs.Tables.{StringTable}
 use Rattle.strings.specs.Strings.{maxStrings, maxBytes, startOf, endOf, textOf, FrontFault, EndFault, StringsRight, no-string, too-many-strings, too-many-bytes, first-not-empty, at-front, end-falls, last-end-wrong, bad-end, repeated}
 use mathlib.Core.Logic.{inl, inr}
 use Rattle.tables.proofs.Booleans.{or-either, and-left, and-right, both-and}
@@ -32,54 +33,54 @@ text-same [] (y ∷ t) e = absurd (false≢true e)
 text-same (x ∷ s) [] e = absurd (false≢true e)
 text-same (x ∷ s) (y ∷ t) e = rw (eqb-true x y (and-left (eqb x y) (sameText s t) e), text-same s t (and-right (eqb x y) (sameText s t) e))
 
-module _ (bytes ends : List ℕ) where
+module _ (T : StringTable) where
   abbrev frontTest : Bool
-  frontTest = (ltb 0 (length ends) && not (ltb maxStrings (length ends))) && (not (ltb maxBytes (length bytes)) && eqb (endOf ends 0) 0)
+  frontTest = (ltb 0 (length (T .ends)) && not (ltb maxStrings (length (T .ends)))) && (not (ltb maxBytes (length (T .bytes))) && eqb (endOf (T .ends) 0) 0)
 
   abbrev endTest : ℕ → Bool
-  endTest k = not (ltb (endOf ends k) (startOf ends k)) && (not (eqb (suc k) (length ends)) || eqb (endOf ends k) (length bytes))
+  endTest k = not (ltb (endOf (T .ends) k) (startOf (T .ends) k)) && (not (eqb (suc k) (length (T .ends))) || eqb (endOf (T .ends) k) (length (T .bytes)))
 
   abbrev apartTest : ℕ → Bool
-  apartTest k = everyBelow (λ j. not (sameText (textOf bytes ends j) (textOf bytes ends k))) k
+  apartTest k = everyBelow (λ j. not (sameText (textOf T j) (textOf T k))) k
 
   unfoldable pub stringsTest : Bool
-  stringsTest = frontTest && everyBelow (λ k. endTest k && apartTest k) (length ends)
+  stringsTest = frontTest && everyBelow (λ k. endTest k && apartTest k) (length (T .ends))
 
   module _ (pass : stringsTest ≡ true) where
     front : frontTest ≡ true
     unfolding stringsTest
-    front = and-left frontTest (everyBelow (λ k. endTest k && apartTest k) (length ends)) pass
+    front = and-left frontTest (everyBelow (λ k. endTest k && apartTest k) (length (T .ends))) pass
 
-    at : (k : ℕ) → k < length ends → (endTest k && apartTest k) ≡ true
+    at : (k : ℕ) → k < length (T .ends) → (endTest k && apartTest k) ≡ true
     unfolding stringsTest
-    at = every-below (λ k. endTest k && apartTest k) (length ends) (and-right frontTest (everyBelow (λ k. endTest k && apartTest k) (length ends)) pass)
+    at = every-below (λ k. endTest k && apartTest k) (length (T .ends)) (and-right frontTest (everyBelow (λ k. endTest k && apartTest k) (length (T .ends))) pass)
 
-    counts : (ltb 0 (length ends) && not (ltb maxStrings (length ends))) ≡ true
-    counts = and-left (ltb 0 (length ends) && not (ltb maxStrings (length ends))) (not (ltb maxBytes (length bytes)) && eqb (endOf ends 0) 0) front
+    counts : (ltb 0 (length (T .ends)) && not (ltb maxStrings (length (T .ends)))) ≡ true
+    counts = and-left (ltb 0 (length (T .ends)) && not (ltb maxStrings (length (T .ends)))) (not (ltb maxBytes (length (T .bytes))) && eqb (endOf (T .ends) 0) 0) front
 
-    rest : (not (ltb maxBytes (length bytes)) && eqb (endOf ends 0) 0) ≡ true
-    rest = and-right (ltb 0 (length ends) && not (ltb maxStrings (length ends))) (not (ltb maxBytes (length bytes)) && eqb (endOf ends 0) 0) front
+    rest : (not (ltb maxBytes (length (T .bytes))) && eqb (endOf (T .ends) 0) 0) ≡ true
+    rest = and-right (ltb 0 (length (T .ends)) && not (ltb maxStrings (length (T .ends)))) (not (ltb maxBytes (length (T .bytes))) && eqb (endOf (T .ends) 0) 0) front
 
-    front-right : (k : ℕ) → ¬ FrontFault bytes ends k
-    front-right k (no-string e z) = let l = ltb-true 0 (length ends) (and-left (ltb 0 (length ends)) (not (ltb maxStrings (length ends))) counts) in omega arith
-    front-right k (too-many-strings h z) = no-of (and-right (ltb 0 (length ends)) (not (ltb maxStrings (length ends))) counts) (lt-ltb maxStrings (length ends) h)
-    front-right k (too-many-bytes h z) = no-of (and-left (not (ltb maxBytes (length bytes))) (eqb (endOf ends 0) 0) rest) (lt-ltb maxBytes (length bytes) h)
-    front-right k (first-not-empty f z) = f (eqb-true (endOf ends 0) 0 (and-right (not (ltb maxBytes (length bytes))) (eqb (endOf ends 0) 0) rest))
+    front-right : (k : ℕ) → ¬ FrontFault T k
+    front-right k (no-string e z) = let l = ltb-true 0 (length (T .ends)) (and-left (ltb 0 (length (T .ends))) (not (ltb maxStrings (length (T .ends)))) counts) in omega arith
+    front-right k (too-many-strings h z) = no-of (and-right (ltb 0 (length (T .ends))) (not (ltb maxStrings (length (T .ends)))) counts) (lt-ltb maxStrings (length (T .ends)) h)
+    front-right k (too-many-bytes h z) = no-of (and-left (not (ltb maxBytes (length (T .bytes)))) (eqb (endOf (T .ends) 0) 0) rest) (lt-ltb maxBytes (length (T .bytes)) h)
+    front-right k (first-not-empty f z) = f (eqb-true (endOf (T .ends) 0) 0 (and-right (not (ltb maxBytes (length (T .bytes)))) (eqb (endOf (T .ends) 0) 0) rest))
 
-    end-test : (k : ℕ) → k < length ends → endTest k ≡ true
+    end-test : (k : ℕ) → k < length (T .ends) → endTest k ≡ true
     end-test k h = and-left (endTest k) (apartTest k) (at k h)
 
-    ends-right : (k : ℕ) → ¬ EndFault bytes ends k
+    ends-right : (k : ℕ) → ¬ EndFault T k
     ends-right k (at-front f) = front-right k f
-    ends-right k (end-falls f) = no-of (and-left (not (ltb (endOf ends k) (startOf ends k))) (not (eqb (suc k) (length ends)) || eqb (endOf ends k) (length bytes)) (end-test k (f .0))) (lt-ltb (endOf ends k) (startOf ends k) (f .1))
+    ends-right k (end-falls f) = no-of (and-left (not (ltb (endOf (T .ends) k) (startOf (T .ends) k))) (not (eqb (suc k) (length (T .ends))) || eqb (endOf (T .ends) k) (length (T .bytes))) (end-test k (f .0))) (lt-ltb (endOf (T .ends) k) (startOf (T .ends) k) (f .1))
     ends-right k (last-end-wrong e f) =
-        elim (or-either (not (eqb (suc k) (length ends))) (eqb (endOf ends k) (length bytes)) (and-right (not (ltb (endOf ends k) (startOf ends k))) (not (eqb (suc k) (length ends)) || eqb (endOf ends k) (length bytes)) (end-test k (omega arith)))) [
-          | inl z ↦ no-of z (eq-eqb (suc k) (length ends) e)
-          | inr z ↦ f (eqb-true (endOf ends k) (length bytes) z)
+        elim (or-either (not (eqb (suc k) (length (T .ends)))) (eqb (endOf (T .ends) k) (length (T .bytes))) (and-right (not (ltb (endOf (T .ends) k) (startOf (T .ends) k))) (not (eqb (suc k) (length (T .ends))) || eqb (endOf (T .ends) k) (length (T .bytes))) (end-test k (omega arith)))) [
+          | inl z ↦ no-of z (eq-eqb (suc k) (length (T .ends)) e)
+          | inr z ↦ f (eqb-true (endOf (T .ends) k) (length (T .bytes)) z)
         ]
 
-    pub strings-right : StringsRight bytes ends
+    pub strings-right : StringsRight T
     strings-right k (bad-end f) = ends-right k f
     strings-right k (repeated r f) =
-        no-of (every-below (λ j. not (sameText (textOf bytes ends j) (textOf bytes ends k))) k (and-right (endTest k) (apartTest k) (at k (f .0))) (f .1 .0) (f .1 .1))
-        (same-text (textOf bytes ends (f .1 .0)) (textOf bytes ends k) (f .1 .2))
+        no-of (every-below (λ j. not (sameText (textOf T j) (textOf T k))) k (and-right (endTest k) (apartTest k) (at k (f .0))) (f .1 .0) (f .1 .1))
+        (same-text (textOf T (f .1 .0)) (textOf T k) (f .1 .2))

@@ -2,7 +2,8 @@
 use Prim.Native.Nat.{ℕ}
 use mathlib.Core.Bool.{Bool, true, false}
 use mathlib.Core.List.{List, [], _∷_}
-use lib.ListN.{length}
+use Rattle.tables.specs.Tables.{stringTable, Tables, tablesOf}
+use Rattle.strings.specs.Strings.{instanceStrings}
 use Rattle.tables.specs.Refusals.{Passes}
 use Rattle.tables.specs.declared.Verdict.the-variants.{Passed, Refused}
 use Rattle.classes.specs.Least.{Least}
@@ -27,27 +28,30 @@ pub record Row : Type 0 where
   pub instance : List ℕ
   pub expected : Expected
 
-abbrev pub IsValid : Bool → List ℕ → List ℕ → List ℕ → List ℕ → Type 0
-IsValid true bytes ends s t = Valid bytes ends s t
-IsValid false bytes ends s t = ¬ Valid bytes ends s t
+abbrev pub tablesAt : Row → Tables
+tablesAt r = tablesOf (stringTable (r .bytes) (r .ends)) (r .schema) (r .instance)
+
+abbrev pub IsValid : Bool → Tables → Type 0
+IsValid true J = Valid J
+IsValid false J = ¬ Valid J
 
 -- no code from 1 to 8 finds a fault
 abbrev pub NotRefused : Row → Type 0
-NotRefused r = SchemaRefusal (r .bytes) (r .ends) (r .schema) Passes Passed
+NotRefused r = SchemaRefusal (tablesAt r .strings) (r .schema) Passes Passed
 
 -- no code from 1 to 10 finds a fault, the list has exactly the pairs, in order, and the instance is valid or not
 pub record Matching (r : Row) (pairs : List (ℕ × ℕ)) (valid : Bool) : Type 0 where
   pub schema-passes : NotRefused r
-  pub nodes-right : NodesRight (length (r .ends)) (r .instance)
+  pub nodes-right : NodesRight (instanceStrings (tablesAt r .strings)) (r .instance)
   pub not-wide : (e : ℕ) → ¬ WidthFault (r .instance) e
   pub rising : Rising pairs
-  pub listed : Lists (Pair (r .bytes) (r .ends) (r .schema) (r .instance)) pairs
-  pub validity : IsValid valid (r .bytes) (r .ends) (r .schema) (r .instance)
+  pub listed : Lists (Pair (tablesAt r)) pairs
+  pub validity : IsValid valid (tablesAt r)
 
 abbrev pub Says : Row → Expected → Type 0
 Says r (matches pairs valid) = Matching r pairs valid
 Says r (least c d u l) = NotRefused r × Least (r .schema) c d (Name u l)
-Says r (refused code place) = SchemaRefusal (r .bytes) (r .ends) (r .schema) Passes (Refused code place)
+Says r (refused code place) = SchemaRefusal (tablesAt r .strings) (r .schema) Passes (Refused code place)
 
 abbrev pub Holds : Row → Type 0
 Holds r = Says r (r .expected)

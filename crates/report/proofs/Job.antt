@@ -8,18 +8,21 @@ use native.Mathlib.Omega.{arith}
 use lib.ListN.{length, take, length-replicate}
 use lib.Seq.{take-take, take-append-seam}
 use borrow.Author.Tests.{le-leb}
+use Rattle.tables.specs.Tables.{stringTable, Tables, tablesOf}
 use Rattle.tables.specs.Outputs.{zeros, laid}
 use Rattle.tables.proofs.Numbers.{not-less}
 use Rattle.schema.specs.Rows.{rowsOf}
 use Rattle.instance.specs.Nodes.{nodesOf}
-use Rattle.jobs.specs.Reading.{Tables, Reading, read, wrong, readJob}
+use Rattle.jobs.specs.Reading.{Reading, read, wrong, readJob}
 use Rattle.jobs.specs.Reported.{refusalText}
 use Rattle.jobs.proofs.Limits.{Limited, limited}
-use Rattle.reader.specs.Promises.{Room, roomOf, fits, readAnswer, given, Holds}
+use Rattle.lines.specs.Promises.{Room, roomOf, OutputsHold}
+use Rattle.reader.specs.Promises.{fits, given, JobAnswer}
+use Rattle.reader.proofs.Answer.{readAnswer, one-answer}
 use Rattle.reader.specs.declared.JobRead.{JobRead}
 use Rattle.reader.specs.declared.JobRead.the-variants.{Read, NotRead}
 use Rattle.relaxng.specs.Answers.{matchesVerdict, pairCount}
-use Rattle.tables.specs.declared.Verdict.the-variants.{Passed}
+use Rattle.tables.specs.Refusals.{codeOf}
 use Rattle.relaxng.specs.Matching.{ListsMatches, Matched}
 use Rattle.relaxng.specs.declared.Matches.{Matches}
 use Rattle.texts.specs.Writing.{TextIn}
@@ -43,10 +46,10 @@ front-laid n run h = take-take (length run) n (run ++ zeros n) h ∙ take-append
 -- a reading is wrong or gives the four counts
 pub data Told (file : List ℕ) : JobRead → Type 0 where
   told-wrong : (line : ℕ) → readJob file ≡ wrong line → Told file (NotRead 13 line)
-  told-read : (t : Tables) → readJob file ≡ read t → Limited t → given (readJob file) lent ≡ t → Told file (Read (length (t .bytes)) (length (t .ends)) (rowsOf (t .schema)) (nodesOf (t .instance)))
+  told-read : (t : Tables) → readJob file ≡ read t → Limited t → given (readJob file) lent ≡ t → Told file (Read (length (t .strings .bytes)) (length (t .strings .ends)) (rowsOf (t .schema)) (nodesOf (t .instance)))
 
-pub told : (file : List ℕ) {job : JobRead} → job ≡ readAnswer (readJob file) empty → Told file job
-told file {job} e = go (readJob file) refl (e ∙ ap (readAnswer (readJob file)) is-lent)
+pub told : (file : List ℕ) {job : JobRead} → JobAnswer (readJob file) empty job → Told file job
+told file {job} a = go (readJob file) refl (one-answer (readJob file) empty job a ∙ ap (readAnswer (readJob file)) is-lent)
   where
     go : (r : Reading) → readJob file ≡ r → job ≡ readAnswer r lent → Told file job
     go (wrong line) f g = rw g (told-wrong line f)
@@ -59,23 +62,23 @@ told file {job} e = go (readJob file) refl (e ∙ ap (readAnswer (readJob file))
         let u = l .few-strings in
         let v = l .few-rows in
         let w = l .few-nodes in
-        let fit : fits t lent ≡ true = rw (le-leb (length (t .bytes)) 16384 (omega arith), le-leb (length (t .ends)) 512 (omega arith), le-leb (length (t .schema)) 1536 (omega arith), le-leb (length (t .instance)) 5120 (omega arith)) in
+        let fit : fits t lent ≡ true = rw (le-leb (length (t .strings .bytes)) 16384 (omega arith), le-leb (length (t .strings .ends)) 512 (omega arith), le-leb (length (t .schema)) 1536 (omega arith), le-leb (length (t .instance)) 5120 (omega arith)) in
         let is-given : given (readJob file) lent ≡ t = rw (f, fit) in
         rw (g, fit) (told-read t f l is-given)
 
 -- the fronts of the lent tables are the tables that were read
-module _ {t : Tables} (l : Limited t) {bytes ends schema instance : List ℕ} (h : Holds t lent bytes ends schema instance) where
+module _ {t : Tables} (l : Limited t) {bytes ends schema instance : List ℕ} (h : OutputsHold t lent bytes ends schema instance) where
   pub whole-rows : rowsOf (t .schema) * 3 ≡ length (t .schema)
   whole-rows = let a = l .lengths .of-schema in omega arith
 
   pub whole-nodes : nodesOf (t .instance) * 5 ≡ length (t .instance)
   whole-nodes = let a = l .lengths .of-instance in omega arith
 
-  pub bytes-back : take (length (t .bytes)) bytes ≡ t .bytes
-  bytes-back = rw (h .of-bytes) (front-laid 16384 (t .bytes) (let a = l .lengths .few-bytes in omega arith))
+  pub bytes-back : take (length (t .strings .bytes)) bytes ≡ t .strings .bytes
+  bytes-back = rw (h .of-bytes) (front-laid 16384 (t .strings .bytes) (let a = l .lengths .few-bytes in omega arith))
 
-  pub ends-back : take (length (t .ends)) ends ≡ t .ends
-  ends-back = rw (h .of-ends) (front-laid 512 (t .ends) (let a = l .lengths .of-ends in let b = l .few-strings in omega arith))
+  pub ends-back : take (length (t .strings .ends)) ends ≡ t .strings .ends
+  ends-back = rw (h .of-ends) (front-laid 512 (t .strings .ends) (let a = l .lengths .of-ends in let b = l .few-strings in omega arith))
 
   pub schema-back : take (rowsOf (t .schema) * 3) schema ≡ t .schema
   schema-back = rw (h .of-schema, whole-rows) (front-laid 1536 (t .schema) (let a = l .lengths .of-schema in let b = l .few-rows in omega arith))
@@ -84,7 +87,7 @@ module _ {t : Tables} (l : Limited t) {bytes ends schema instance : List ℕ} (h
   instance-back = rw (h .of-instance, whole-nodes) (front-laid 5120 (t .instance) (let a = l .lengths .of-instance in let b = l .few-nodes in omega arith))
 
 -- the pairs of an answer fit the words that are lent
-pub pairs-fit : {bytes ends s t list : List ℕ} {r : Matches} {pairs : ℕ} → ListsMatches bytes ends s t listRoom list r → matchesVerdict r ≡ Passed → pairCount r ≡ pairs → pairs * 2 ≤ listRoom
+pub pairs-fit : {J : Tables} {list : List ℕ} {r : Matches} {pairs : ℕ} → ListsMatches J listRoom list r → codeOf (matchesVerdict r) ≡ 0 → pairCount r ≡ pairs → pairs * 2 ≤ listRoom
 pairs-fit lists e f =
     let m = lists .matched e in
     let a = m .written .fit in
@@ -92,10 +95,10 @@ pairs-fit lists e f =
     omega arith
 
 -- the list that is lent has so many words
-pub lent-list : {bytes ends s t list : List ℕ} {r : Matches} → ListsMatches bytes ends s t (length (zeros listRoom)) list r → ListsMatches bytes ends s t listRoom list r
-lent-list {bytes} {ends} {s} {t} {list} {r} = subst (λ (room : ℕ). ListsMatches bytes ends s t room list r) (length-replicate {A = ℕ} 16384 0)
+pub lent-list : {J : Tables} {list : List ℕ} {r : Matches} → ListsMatches J (length (zeros listRoom)) list r → ListsMatches J listRoom list r
+lent-list {J} {list} {r} = subst (λ (room : ℕ). ListsMatches J room list r) (length-replicate {A = ℕ} 16384 0)
 
-pub is-answered : {bytes ends s t list out : List ℕ} {room n : ℕ} {r q : Matches} → ListsMatches bytes ends s t listRoom list r → r ≡ q → TextIn (answerText q list) room out n → Answered bytes ends s t room out n
+pub is-answered : {J : Tables} {list out : List ℕ} {room n : ℕ} {r q : Matches} → ListsMatches J listRoom list r → r ≡ q → TextIn (answerText q list) room out n → Answered J room out n
 is-answered {list = list} {r = r} lists e w = record { list = list; matches = r; lists = lists; written = rw e w }
 
 -- no more is answered than the output has room for
@@ -122,8 +125,8 @@ within {file} {b} {s} {r} {n} t = go (Read b s r n) refl t
     go : (j : JobRead) → j ≡ Read b s r n → Told file j → Within b s r n
     go j e (told-wrong line f) = let z : _≡_ {A = ℕ} 0 1 = cc e in absurd (omega arith)
     go j e (told-read t f l g) =
-        let x₁ : length (t .bytes) ≡ b = cc e in
-        let x₂ : length (t .ends) ≡ s = cc e in
+        let x₁ : length (t .strings .bytes) ≡ b = cc e in
+        let x₂ : length (t .strings .ends) ≡ s = cc e in
         let x₃ : rowsOf (t .schema) ≡ r = cc e in
         let x₄ : nodesOf (t .instance) ≡ n = cc e in
         let y₁ = l .lengths .few-bytes in
@@ -147,18 +150,18 @@ report-wrong {file} {out} {room} {n} {code} {place} t w = go (NotRead code place
         record { text = refusalText code place; reports = not-read line f (rw (a, b)); written = w }
     go j e (told-read t f l g) = let z : _≡_ {A = ℕ} 0 1 = cc e in absurd (omega arith)
 
-pub report-read : {file : List ℕ} {b s r n : ℕ} {bytes ends schema instance : List ℕ} {out : List ℕ} {room m : ℕ} → Told file (Read b s r n) → Holds (given (readJob file) empty) empty bytes ends schema instance
-    → Answered (take b bytes) (take s ends) (take (r * 3) schema) (take (n * 5) instance) room out m → Reported file room out m
+pub report-read : {file : List ℕ} {b s r n : ℕ} {bytes ends schema instance : List ℕ} {out : List ℕ} {room m : ℕ} → Told file (Read b s r n) → OutputsHold (given (readJob file) empty) empty bytes ends schema instance
+    → Answered (tablesOf (stringTable (take b bytes) (take s ends)) (take (r * 3) schema) (take (n * 5) instance)) room out m → Reported file room out m
 report-read {file} {b} {s} {r} {n} {bytes} {ends} {schema} {instance} {out} {room} {m} t holds a = go (Read b s r n) refl t
   where
     go : (j : JobRead) → j ≡ Read b s r n → Told file j → Reported file room out m
     go j e (told-wrong line f) = let z : _≡_ {A = ℕ} 0 1 = cc e in absurd (omega arith)
     go j e (told-read t f l g) =
-        let x₁ : b ≡ length (t .bytes) = cc e in
-        let x₂ : s ≡ length (t .ends) = cc e in
+        let x₁ : b ≡ length (t .strings .bytes) = cc e in
+        let x₂ : s ≡ length (t .strings .ends) = cc e in
         let x₃ : r ≡ rowsOf (t .schema) = cc e in
         let x₄ : n ≡ nodesOf (t .instance) = cc e in
-        let h : Holds t lent bytes ends schema instance = subst (λ (u : Tables). Holds u lent bytes ends schema instance) g (subst (λ (w : Room). Holds (given (readJob file) w) w bytes ends schema instance) is-lent holds) in
+        let h : OutputsHold t lent bytes ends schema instance = subst (λ (u : Tables). OutputsHold u lent bytes ends schema instance) g (subst (λ (w : Room). OutputsHold (given (readJob file) w) w bytes ends schema instance) is-lent holds) in
         let y₁ = ap (λ (k : ℕ). take k bytes) x₁ ∙ bytes-back l h in
         let y₂ = ap (λ (k : ℕ). take k ends) x₂ ∙ ends-back l h in
         let y₃ = ap (λ (k : ℕ). take (k * 3) schema) x₃ ∙ schema-back l h in

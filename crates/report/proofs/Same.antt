@@ -2,7 +2,7 @@
 use Prim.Native.Nat.{ℕ}
 use mathlib.Core.Path.{_≡_, sym, _∙_, ap, ap₂, subst}
 use mathlib.Core.List.{List}
-use Rattle.jobs.specs.Reading.{Tables}
+use Rattle.tables.specs.Tables.{Tables}
 use Rattle.jobs.specs.Reported.{refusalText}
 use Rattle.jobs.proofs.Limits.{not-wrong}
 use Rattle.relaxng.specs.Matching.{ListsMatches}
@@ -15,5 +15,5 @@ one-report (not-read n e f) (answered t l r g p h) = absurd (not-wrong (sym e �
 one-report (answered t l r e p f) (not-read m g h) = absurd (not-wrong (sym g ∙ e))
 one-report (answered t l r e p f) (answered u m q g k h) =
     let z : t ≡ u = cc (sym e ∙ g) in
-    let s = same-answer r q (subst (λ (v : Tables). ListsMatches (v .bytes) (v .ends) (v .schema) (v .instance) listRoom l r) z p) k in
+    let s = same-answer r q (subst (λ (v : Tables). ListsMatches v listRoom l r) z p) k in
     f ∙ ap₂ answerText (s .0) (s .1) ∙ sym h

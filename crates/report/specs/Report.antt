@@ -4,7 +4,8 @@ use mathlib.Core.Path.{_≡_}
 use mathlib.Core.Bool.{true, false}
 use mathlib.Core.List.{List}
 use lib.ListN.{take}
-use Rattle.jobs.specs.Reading.{Tables, read, wrong, readJob}
+use Rattle.tables.specs.Tables.{Tables}
+use Rattle.jobs.specs.Reading.{read, wrong, readJob}
 use Rattle.jobs.specs.Reported.{matchText, refusalText}
 use Rattle.texts.specs.Writing.{TextIn}
 use Rattle.relaxng.specs.Matching.{ListsMatches}
@@ -24,7 +25,7 @@ answerText (NotMatched code place) list = refusalText code place
 -- the text of a job file: refused by 13 at its first wrong line, or the answer on the match list of its tables
 pub data Reports (file text : List ℕ) : Type 0 where
   not-read : (line : ℕ) → readJob file ≡ wrong line → text ≡ refusalText 13 line → Reports file text
-  answered : (t : Tables) (list : List ℕ) (r : Matches) → readJob file ≡ read t → ListsMatches (t .bytes) (t .ends) (t .schema) (t .instance) listRoom list r → text ≡ answerText r list → Reports file text
+  answered : (t : Tables) (list : List ℕ) (r : Matches) → readJob file ≡ read t → ListsMatches t listRoom list r → text ≡ answerText r list → Reports file text
 
 -- an output of so many bytes holds that text, with zeros after it, and n is its length
 pub record Reported (file : List ℕ) (room : ℕ) (out : List ℕ) (n : ℕ) : Type 0 where
@@ -33,8 +34,8 @@ pub record Reported (file : List ℕ) (room : ℕ) (out : List ℕ) (n : ℕ) : 
   pub written : TextIn text room out n
 
 -- the answer on tables, written
-pub record Answered (bytes ends s t : List ℕ) (room : ℕ) (out : List ℕ) (n : ℕ) : Type 0 where
+pub record Answered (J : Tables) (room : ℕ) (out : List ℕ) (n : ℕ) : Type 0 where
   pub list : List ℕ
   pub matches : Matches
-  pub lists : ListsMatches bytes ends s t listRoom list matches
+  pub lists : ListsMatches J listRoom list matches
   pub written : TextIn (answerText matches list) room out n

@@ -16,13 +16,13 @@ slice-aggregate-write-matches : tie.Need-slice-aggregate-write-matches
 slice-aggregate-write-matches c = sym (length-take-le (c .before .before .before .args .pairs * 2) (c .before .before .before .args .list .now) (omega arith))
 
 write-matches-requires : tie.Need-write-matches-requires
-write-matches-requires c κs = search needs
+write-matches-requires c κs = let e = length-take-le (c .before .before .before .before .args .pairs * 2) (c .before .before .before .before .args .list .now) (omega arith) in (omega arith, omega arith)
 
 same-length : tie.Need-same-length
 same-length c = search needs
 
 returns : tie.Need-returns
-returns c = let e = length-take-le (c .before .before .before .before .before .before .before .args .pairs * 2) (c .before .before .before .before .before .before .before .args .list .now) (omega arith) in c .before .before .write-matches .ensures (omega arith) (omega arith)
+returns c = c .before .before .write-matches .ensures
 
 pub write-pairs-spec : {M : Type 1} → statement M
 write-pairs-spec =
