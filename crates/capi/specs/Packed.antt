@@ -1,18 +1,22 @@
 -- How an answer is handed to C: one number, or a copy in a lent output.
-use Prim.Native.Nat.{ℕ, _+_, _*_}
+use Prim.Native.Nat.{ℕ, _+_, _*_, _≤_, _<_}
 use mathlib.Core.Path.{_≡_}
 use mathlib.Core.List.{List, [], _∷_}
 use lib.ListN.{length}
 use denote.Ref.{RefT, now}
+use Rattle.tables.specs.Tables.{StringTable, Tables}
 use Rattle.tables.specs.Answers.{Finds}
 use Rattle.tables.specs.Outputs.{laid}
 use Rattle.tables.specs.declared.Checked.{Checked}
 use Rattle.strings.specs.Text.{StringText}
 use Rattle.tables.specs.Refusals.{refusalOf, codeOf, placeOf, Passes}
 use Rattle.tables.specs.declared.Verdict.{Verdict}
-use Rattle.instance.specs.Width.{FindsWidth}
+use Rattle.instance.specs.Nodes.{nodesOf}
+use Rattle.instance.specs.NodeRule.{maxNodes}
+use Rattle.instance.specs.Width.{WidthFault}
 use Rattle.jobs.specs.Reading.{readJob}
-use Rattle.reader.specs.Promises.{Room, readVerdict, readAnswer, given, Holds}
+use Rattle.lines.specs.Promises.{Room, OutputsHold}
+use Rattle.reader.specs.Promises.{readVerdict, given, JobAnswer}
 use Rattle.reader.specs.declared.JobRead.{JobRead}
 use Rattle.reader.specs.declared.JobRead.the-variants.{Read, NotRead}
 use Rattle.writer.specs.Promises.{writtenVerdict, WriteJob}
@@ -59,35 +63,30 @@ nameWords (Least namespace local) = namespace ∷ local ∷ []
 nameWords None = []
 nameWords (NotSought code place) = []
 
-pub record PackedSchema (bytes ends s : List ℕ) (r : ℕ) : Type 0 where
+pub record PackedSchema (T : StringTable) (s : List ℕ) (r : ℕ) : Type 0 where
   pub answer : Verdict
-  pub refusal : SchemaRefusal bytes ends s Passes answer
+  pub refusal : SchemaRefusal T s Passes answer
   pub number : r ≡ packedVerdict answer
 
-pub record PackedMember (bytes ends s : List ℕ) (class namespace local : ℕ) (r : ℕ) : Type 0 where
+pub record PackedMember (T : StringTable) (s : List ℕ) (class namespace local : ℕ) (r : ℕ) : Type 0 where
   pub answer : Membership
-  pub promise : NameInClass bytes ends s class namespace local answer
+  pub promise : NameInClass T s class namespace local answer
   pub number : r ≡ packedMembership answer
 
-pub record PackedLeast (bytes ends s : List ℕ) (first second : ℕ) (out left : List ℕ) (r : ℕ) : Type 0 where
+pub record PackedLeast (T : StringTable) (s : List ℕ) (first second : ℕ) (out left : List ℕ) (r : ℕ) : Type 0 where
   pub answer : CommonName
-  pub promise : LeastCommonName bytes ends s first second answer
+  pub promise : LeastCommonName T s first second answer
   pub number : r ≡ packedName answer
   pub words : left ≡ laid (length out) (nameWords answer)
 
-pub record PackedWidth (t : List ℕ) (r : ℕ) : Type 0 where
-  pub answer : Checked
-  pub finds : FindsWidth t answer
-  pub number : r ≡ packedVerdict (refusalOf 10 answer)
-
 -- an answer of the writer: the refusal, or the length of the text
 abbrev pub packedWritten : JobWritten → ℕ
-packedWritten (Written length) = length
+packedWritten (Written size) = size
 packedWritten (NotWritten code place) = packedVerdict (writtenVerdict (NotWritten code place))
 
-pub record PackedWrite (bytes ends schema instance : List ℕ) (room : ℕ) (out : List ℕ) (r : ℕ) : Type 0 where
+pub record PackedWrite (J : Tables) (room : ℕ) (out : List ℕ) (r : ℕ) : Type 0 where
   pub answer : JobWritten
-  pub promise : WriteJob bytes ends schema instance room out answer
+  pub promise : WriteJob J room out answer
   pub number : r ≡ packedWritten answer
 
 -- an answer of the reader: the refusal, or 0; and the counts of bytes, strings, schema rows and instance rows
@@ -99,6 +98,13 @@ readCounts (Read bytes strings rows nodes) = bytes ∷ strings ∷ rows ∷ node
 readCounts (NotRead code place) = []
 
 pub record PackedRead (file : List ℕ) (room : Room) (bytes ends schema instance : List ℕ) (out left : List ℕ) (r : ℕ) : Type 0 where
-  pub number : r ≡ packedRead (readAnswer (readJob file) room)
-  pub tables : Holds (given (readJob file) room) room bytes ends schema instance
-  pub counts : left ≡ laid (length out) (readCounts (readAnswer (readJob file) room))
+  pub answer : JobRead
+  pub promise : JobAnswer (readJob file) room answer
+  pub number : r ≡ packedRead answer
+  pub tables : OutputsHold (given (readJob file) room) room bytes ends schema instance
+  pub counts : left ≡ laid (length out) (readCounts answer)
+
+-- code 10 on any table: more rows than an instance may have, at 0, or an element that is too wide
+pub data WideTable (t : List ℕ) (place : ℕ) : Type 0 where
+  many-nodes : maxNodes < nodesOf t → place ≡ 0 → WideTable t place
+  too-wide : nodesOf t ≤ maxNodes → WidthFault t place → WideTable t place

@@ -2,22 +2,24 @@
 use reader::JobRead;
 use relaxng::CommonName;
 use relaxng::Membership;
+use tables::Checked;
 use tables::Verdict;
 use writer::JobWritten;
 ghost use mathlib.Core.Path.{_≡_};
 ghost use Prim.Native.Nat.{_+_, _*_};
 ghost use lib.ListN.{length};
 ghost use Rattle.tables.specs.Outputs.{laid};
-ghost use Rattle.tables.specs.Answers.{Decides};
+ghost use Rattle.tables.specs.Answers.{Decides, Finds};
+ghost use Rattle.tables.specs.Tables.{stringTable, tablesOf};
 ghost use Rattle.strings.specs.Strings.{StringFault};
 ghost use Rattle.instance.specs.NodeRule.{NodeFault};
-ghost use Rattle.reader.specs.Promises.{roomOf};
+ghost use Rattle.lines.specs.Promises.{roomOf};
 ghost use Rattle.datatypes.specs.Whitespace.{whitespace, stringEqual, tokenEqual};
-ghost use Rattle.capi.specs.Packed.{packedVerdict, packedMembership, packedName, nameWords, PackedCheck, CopiedText, PackedSchema, PackedMember, PackedLeast, PackedWidth, packedWritten, PackedWrite, packedRead, readCounts, PackedRead};
+ghost use Rattle.capi.specs.Packed.{packedVerdict, packedMembership, packedName, nameWords, PackedCheck, CopiedText, PackedSchema, PackedMember, PackedLeast, WideTable, packedWritten, PackedWrite, packedRead, readCounts, PackedRead};
 
 #[no_mangle]
 pub extern "C" fn farshavan_check_strings(bytes: &[u8], ends: &[u32]) -> u64
-    ensures { λ r. ⌜ PackedCheck 1 (StringFault (now (bytes .entry)) (now (ends .entry))) r ⌝ }
+    ensures { λ r. ⌜ PackedCheck 1 (StringFault (stringTable (now (bytes .entry)) (now (ends .entry)))) r ⌝ }
 {
     pack_verdict(tables::refusal(1, strings::check_strings(bytes, ends)))
 }
@@ -105,7 +107,7 @@ fn lay_name(answer: CommonName, out: &mut [u32])
 
 #[no_mangle]
 pub extern "C" fn farshavan_schema_verdict(bytes: &[u8], ends: &[u32], schema: &[u32]) -> u64
-    ensures { λ r. ⌜ PackedSchema (now (bytes .entry)) (now (ends .entry)) (now (schema .entry)) r ⌝ }
+    ensures { λ r. ⌜ PackedSchema (stringTable (now (bytes .entry)) (now (ends .entry))) (now (schema .entry)) r ⌝ }
 {
     pack_verdict(relaxng::schema_verdict(bytes, ends, schema))
 }
@@ -119,7 +121,7 @@ pub extern "C" fn farshavan_name_in_class(
     namespace: u32,
     local: u32,
 ) -> u64
-    ensures { λ r. ⌜ PackedMember (now (bytes .entry)) (now (ends .entry)) (now (schema .entry)) class namespace local r ⌝ }
+    ensures { λ r. ⌜ PackedMember (stringTable (now (bytes .entry)) (now (ends .entry))) (now (schema .entry)) class namespace local r ⌝ }
 {
     pack_membership(relaxng::name_in_class(bytes, ends, schema, class, namespace, local))
 }
@@ -133,7 +135,7 @@ pub extern "C" fn farshavan_least_common_name(
     second: u32,
     name: &mut [u32],
 ) -> u64
-    ensures { λ r. ⌜ PackedLeast (now (bytes .entry)) (now (ends .entry)) (now (schema .entry)) first second (now (name .entry)) (now (name .exit)) r ⌝ }
+    ensures { λ r. ⌜ PackedLeast (stringTable (now (bytes .entry)) (now (ends .entry))) (now (schema .entry)) first second (now (name .entry)) (now (name .exit)) r ⌝ }
 {
     let answer = relaxng::least_common_name(bytes, ends, schema, first, second);
     lay_name(answer, name);
@@ -147,18 +149,28 @@ pub extern "C" fn farshavan_check_nodes(strings: usize, instance: &[u32]) -> u64
     pack_verdict(tables::refusal(9, nodes::check_nodes(strings, instance)))
 }
 
+// Code 10 on any table.
+fn check_width(instance: &[u32]) -> Checked
+    ensures { λ r. ⌜ Finds (WideTable (now (instance .entry))) r ⌝ }
+{
+    if instance::MAX_NODES < instance.len() / 5 {
+        return Checked::Fault(0);
+    }
+    width::check_width(instance)
+}
+
 #[no_mangle]
 pub extern "C" fn farshavan_check_width(instance: &[u32]) -> u64
-    ensures { λ r. ⌜ PackedWidth (now (instance .entry)) r ⌝ }
+    ensures { λ r. ⌜ PackedCheck 10 (WideTable (now (instance .entry))) r ⌝ }
 {
-    pack_verdict(tables::refusal(10, width::check_width(instance)))
+    pack_verdict(tables::refusal(10, check_width(instance)))
 }
 
 fn pack_written(answer: JobWritten) -> u64
     ensures { λ r. ⌜ r ≡ packedWritten answer ⌝ }
 {
     match answer {
-        JobWritten::Written(length) => length as u64,
+        JobWritten::Written(size) => size as u64,
         JobWritten::NotWritten(code, place) => pack_refusal(code, place),
     }
 }
@@ -171,7 +183,7 @@ pub extern "C" fn farshavan_write_job(
     instance: &[u32],
     out: &mut [u8],
 ) -> u64
-    ensures { λ r. ⌜ PackedWrite (now (bytes .entry)) (now (ends .entry)) (now (schema .entry)) (now (instance .entry)) (length (now (out .entry))) (now (out .exit)) r ⌝ }
+    ensures { λ r. ⌜ PackedWrite (tablesOf (stringTable (now (bytes .entry)) (now (ends .entry))) (now (schema .entry)) (now (instance .entry))) (length (now (out .entry))) (now (out .exit)) r ⌝ }
 {
     pack_written(writer::write_job(bytes, ends, schema, instance, out))
 }

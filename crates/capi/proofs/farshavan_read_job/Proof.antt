@@ -1,13 +1,7 @@
 -- The promise of the reader, packed.
 use Rattle.capi.proofs.farshavan_read_job.Statement.{statement}
 use Rattle.capi.proofs.farshavan_read_job.Tie as tie
-use Rattle.capi.specs.Packed.{packedRead, readCounts}
-use Rattle.reader.specs.declared.JobRead.{JobRead}
-use Rattle.tables.specs.Outputs.{laid}
 use borrow.Author.Needs.{needs}
-use denote.Ref.{now}
-use lib.ListN.{length}
-use mathlib.Core.Path.{_∙_, ap}
 
 read-job-requires : tie.Need-read-job-requires
 read-job-requires c κs = search needs
@@ -34,7 +28,7 @@ same-length-5 : tie.Need-same-length-5
 same-length-5 c = search needs
 
 returns : tie.Need-returns
-returns c = record { number = c .pack-read .ensures ∙ ap packedRead (c .before .before .before .before .before .before .before .before .before .before .before .before .before .read-job .ensures .0); tables = c .before .before .before .before .before .before .before .before .before .before .before .before .before .read-job .ensures .1; counts = c .before .before .before .lay-counts .ensures ∙ ap (λ (a : JobRead). laid (length (now (c .before .before .before .before .before .before .before .before .before .before .before .before .before .before .before .before .before .before .before .before .before .before .before .before .args .counts))) (readCounts a)) (c .before .before .before .before .before .before .before .before .before .before .before .before .before .read-job .ensures .0) }
+returns c = record { answer = c .before .before .before .before .before .before .before .before .before .before .before .before .before .read-job .result; promise = c .before .before .before .before .before .before .before .before .before .before .before .before .before .read-job .ensures .0; number = c .pack-read .ensures; tables = c .before .before .before .before .before .before .before .before .before .before .before .before .before .read-job .ensures .1; counts = c .before .before .before .lay-counts .ensures }
 
 pub farshavan-read-job-spec : {M : Type 1} → statement M
 farshavan-read-job-spec =
