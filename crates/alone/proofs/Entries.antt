@@ -15,12 +15,12 @@ use Rattle.schema.specs.Rows.{kindOf, aOf, bOf}
 use Rattle.schema.specs.Views.{Pattern, patternBy, patternOf}
 use Rattle.schema.specs.Views as pattern
 use Rattle.restrictions.specs.Schema.{SchemaPasses}
-use Rattle.rules.specs.Items.{string, none, Lookups}
+use Rattle.rules.specs.Items.{string, noAttributes, Lookups}
 use Rattle.rules.specs.Rules.{Match, NotMatchBy, text-1, empty, text-2}
 use Rattle.rules.specs.Job.{lookups, datatypeEqual}
 use Rattle.rules.proofs.Inversion.{One, stepwise}
 use Rattle.rules.proofs.Passing.{restricted}
-use Rattle.rules.specs.Reach.{Part, operand, repeated, choice-first, choice-second, group-first, group-second, interleave-first, interleave-second, of-except}
+use Rattle.rules.specs.Reach.{Subpattern, operand, repeated, choice-first, choice-second, group-first, group-second, interleave-first, interleave-second, of-except}
 use Rattle.rules.proofs.RowPatterns.{Makes, makes-empty, makes-notAllowed, makes-text, makes-data, makes-except, makes-value, makes-attribute, makes-ref, makes-oneOrMore, makes-choice, makes-group, makes-interleave, makes-none, row-makes}
 use Rattle.rules.proofs.Strata.{not-match}
 use Rattle.alone.specs.Alone.{TellsString, Alone}
@@ -49,13 +49,13 @@ module _ (s : List ℕ) (p : ℕ) where
   unfolding patternBy
   is-text e = rw e
 
-  pub is-data : kindOf s p ≡ kind.«data» → bOf s p ≡ kind.none → patternOf s p ≡ pattern.dataAll (aOf s p)
+  pub is-data : kindOf s p ≡ kind.«data» → bOf s p ≡ kind.noRow → patternOf s p ≡ pattern.dataAll (aOf s p)
   unfolding patternBy
-  is-data e f = rw (e, eq-eqb (bOf s p) kind.none f)
+  is-data e f = rw (e, eq-eqb (bOf s p) kind.noRow f)
 
-  pub is-except : kindOf s p ≡ kind.«data» → bOf s p ≢ kind.none → patternOf s p ≡ pattern.dataExcept (aOf s p) (bOf s p)
+  pub is-except : kindOf s p ≡ kind.«data» → bOf s p ≢ kind.noRow → patternOf s p ≡ pattern.dataExcept (aOf s p) (bOf s p)
   unfolding patternBy
-  is-except e f = rw (e, ne-eqb (bOf s p) kind.none f)
+  is-except e f = rw (e, ne-eqb (bOf s p) kind.noRow f)
 
   is-value : kindOf s p ≡ kind.value → patternOf s p ≡ pattern.value (aOf s p) (bOf s p)
   unfolding patternBy
@@ -93,7 +93,7 @@ module _ (T : StringTable) (s t : List ℕ) where
   N = NotMatchBy L (L .rows)
 
   -- what is left takes something
-  no-null : (p : ℕ) {x : Pattern} → Rest s p → kindOf s p ≢ kind.empty → Makes (kindOf s p) (aOf s p) (bOf s p) x → ¬ Match L N none [] x
+  no-null : (p : ℕ) {x : Pattern} → Rest s p → kindOf s p ≢ kind.empty → Makes (kindOf s p) (aOf s p) (bOf s p) x → ¬ Match L N noAttributes [] x
   no-null p r f (makes-empty e) d = f e
   no-null p r f (makes-notAllowed e) d = stepwise L N pattern.notAllowed .0 d
   no-null p r f (makes-text e) d = r .no-text e
@@ -108,7 +108,7 @@ module _ (T : StringTable) (s t : List ℕ) where
   no-null p r f (makes-interleave e) d = r .no-interleave e
   no-null p r f (makes-none e) d = stepwise L N pattern.noPattern .0 d
 
-  no-lone : (p : ℕ) {x : Pattern} {w : List ℕ} → Rest s p → kindOf s p ≢ kind.«data» → kindOf s p ≢ kind.value → Makes (kindOf s p) (aOf s p) (bOf s p) x → ¬ Match L N none (string w ∷ []) x
+  no-lone : (p : ℕ) {x : Pattern} {w : List ℕ} → Rest s p → kindOf s p ≢ kind.«data» → kindOf s p ≢ kind.value → Makes (kindOf s p) (aOf s p) (bOf s p) x → ¬ Match L N noAttributes (string w ∷ []) x
   no-lone p r f v (makes-empty e) d = cons≢nil (stepwise L N pattern.empty .0 d .1)
   no-lone p r f v (makes-notAllowed e) d = stepwise L N pattern.notAllowed .0 d
   no-lone p r f v (makes-text e) d = r .no-text e
@@ -125,7 +125,7 @@ module _ (T : StringTable) (s t : List ℕ) where
 
 -- a part of a pattern comes before it
 module _ (s : List ℕ) (p : ℕ) where
-  pub falls : (T : StringTable) (t : List ℕ) → SchemaPasses (schemaStrings T) s → {q : ℕ} {x : Pattern} → patternOf s p ≡ x → Part q x → q < p
+  pub falls : (T : StringTable) (t : List ℕ) → SchemaPasses (schemaStrings T) s → {q : ℕ} {x : Pattern} → patternOf s p ≡ x → Subpattern q x → q < p
   falls T t c {q} e h = restricted (tablesOf T s t) c .falls p q (rw e h)
 
 -- the empty sequence
@@ -175,12 +175,12 @@ module _ (T : StringTable) (s alone nothing : List ℕ) (p k : ℕ) {v : ℕ} wh
   string-text e f t c b h = (λ x. rw (is-text s p e) (text-2 (textOf T k) text-1), λ x. f)
 
   pub string-data : kindOf s p ≡ kind.«data» → DataEntry alone (bOf s p) k v → StringAt T s alone nothing p k v
-  string-data e f t c b h = elim (ℕ-discrete (bOf s p) kind.none) [ yes z ↦ all z | no z ↦ except z ]
+  string-data e f t c b h = elim (ℕ-discrete (bOf s p) kind.noRow) [ yes z ↦ all z | no z ↦ except z ]
     where
-      all : bOf s p ≡ kind.none → TellsString (tablesOf T s t) p k v
+      all : bOf s p ≡ kind.noRow → TellsString (tablesOf T s t) p k v
       all z = (λ x. rw (is-data s p e z) (stepwise (L T s t) (N T s t) (pattern.dataAll (aOf s p)) .1 (refl, (textOf T k, refl, tt))), λ x. f .all z)
 
-      except : bOf s p ≢ kind.none → TellsString (tablesOf T s t) p k v
+      except : bOf s p ≢ kind.noRow → TellsString (tablesOf T s t) p k v
       except z =
           let x = is-except s p e z in
           let R = restricted (tablesOf T s t) c in

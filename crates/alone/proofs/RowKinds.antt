@@ -16,10 +16,10 @@ use Rattle.alone.proofs.Entries.{one-iff, not-one, Rest, falls, is-exce
 
 -- data without an except, and with one
 module _ {before after : List ℕ} {p n except : ℕ} where
-  pub data-all : except ≡ kind.none → RowOf (λ k v. v ≡ 1) before after p n → RowOf (DataEntry before except) before after p n
+  pub data-all : except ≡ kind.noRow → RowOf (λ k v. v ≡ 1) before after p n → RowOf (DataEntry before except) before after p n
   data-all z = row-map (λ k v h e. record { all = λ y. e; but = λ f. absurd (f z) })
 
-  pub data-but : except ≢ kind.none → RowOf (NotOf before except) before after p n → RowOf (DataEntry before except) before after p n
+  pub data-but : except ≢ kind.noRow → RowOf (NotOf before except) before after p n → RowOf (DataEntry before except) before after p n
   data-but f = row-map (λ k v h e. record { all = λ z. absurd (f z); but = λ g. e })
 
 -- two patterns of which each matches the empty sequence or does not
@@ -52,7 +52,7 @@ module _ (T : StringTable) (s before nothing : List ℕ) {after : List ℕ} (p :
 
   -- the fields of the row, as they were read
   module _ {a b : ℕ} (ae : a ≡ aOf s p) (be : b ≡ bOf s p) where
-    pub made-data : kindOf s p ≡ kind.«data» → ((b ≢ kind.none → b < p) → RowOf (DataEntry before b) before after p (instanceStrings T)) → RowMade T s before nothing after p
+    pub made-data : kindOf s p ≡ kind.«data» → ((b ≢ kind.noRow → b < p) → RowOf (DataEntry before b) before after p (instanceStrings T)) → RowMade T s before nothing after p
     made-data e r =
         made (λ k v x. string-data T s before nothing p k e (rw be at x))
         (λ c. r (λ z. rw be (falls s p T [] c (is-except s p e (λ n. z (be ∙ n))) of-except)))

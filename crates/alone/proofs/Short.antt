@@ -8,7 +8,7 @@ use native.Mathlib.Omega.{arith}
 use borrow.Author.Tests.{eq-eqb}
 use Rattle.schema.specs.Views.{Pattern}
 use Rattle.schema.specs.Views as pattern
-use Rattle.rules.specs.Items.{Item, element, string, Attributes, none, only, _∪_, Lookups}
+use Rattle.rules.specs.Items.{Item, element, string, Attributes, noAttributes, only, _∪_, Lookups}
 use Rattle.rules.specs.Rules.{Match, group, empty, oneOrMore-1, oneOrMore-2, interleave}
 use Rattle.rules.proofs.Booleans.{none-left, none-right}
 use Rattle.rules.proofs.Interleavings.{Shuffle, shuffle, interleaved, done, left, right}
@@ -45,7 +45,7 @@ no-items (x ∷ l) r e = absurd (nil≢cons e)
 shuffle-none : {l r : List Item} → Shuffle [] l r → (l ≡ []) × (r ≡ [])
 shuffle-none done = (refl, refl)
 
-pub not-none : (x : ℕ) → ¬ (none ≡ only x)
+pub not-none : (x : ℕ) → ¬ (noAttributes ≡ only x)
 not-none x e = true≢false (sym (eq-eqb x x refl) ∙ ap (λ (a : Attributes). a x) (sym e))
 
 pub no-element : (b a : List Item) (e : ℕ) (s : List ℕ) → ¬ (string s ∷ [] ≡ b ++ element e ∷ a)
@@ -60,19 +60,19 @@ some-element (x ∷ b) a e h = nil≢cons h
 module _ (L : Lookups) (NotMatch : List ℕ → ℕ → Type 0) where
   -- the pattern at row p matches the string alone, and the empty sequence
   abbrev pub Lone : ℕ → List ℕ → Type 0
-  Lone p s = Match L NotMatch none (string s ∷ []) (L .pattern p)
+  Lone p s = Match L NotMatch noAttributes (string s ∷ []) (L .pattern p)
 
   abbrev pub Null : ℕ → Type 0
-  Null p = Match L NotMatch none [] (L .pattern p)
+  Null p = Match L NotMatch noAttributes [] (L .pattern p)
 
   -- a match without attributes of two patterns
-  pair-apart : {a₁ a₂ : Attributes} {m₁ m₂ : List Item} {x₁ x₂ : Pattern} → none ≡ a₁ ∪ a₂ → Match L NotMatch a₁ m₁ x₁ → Match L NotMatch a₂ m₂ x₂ → Match L NotMatch none m₁ x₁ × Match L NotMatch none m₂ x₂
+  pair-apart : {a₁ a₂ : Attributes} {m₁ m₂ : List Item} {x₁ x₂ : Pattern} → noAttributes ≡ a₁ ∪ a₂ → Match L NotMatch a₁ m₁ x₁ → Match L NotMatch a₂ m₂ x₂ → Match L NotMatch noAttributes m₁ x₁ × Match L NotMatch noAttributes m₂ x₂
   pair-apart {a₁} {a₂} e d₁ d₂ = (cast L NotMatch (none-left a₁ a₂ (sym e)) refl d₁, cast L NotMatch (none-right a₁ a₂ (sym e)) refl d₂)
 
   abbrev pub Either : ℕ → ℕ → List ℕ → Type 0
   Either p₁ p₂ s = (Lone p₁ s × Null p₂) ⊎ (Null p₁ × Lone p₂ s)
 
-  shared : (p₁ p₂ : ℕ) {s : List ℕ} {m₁ m₂ : List Item} → Shared (string s) m₁ m₂ → Match L NotMatch none m₁ (L .pattern p₁) → Match L NotMatch none m₂ (L .pattern p₂) → Either p₁ p₂ s
+  shared : (p₁ p₂ : ℕ) {s : List ℕ} {m₁ m₂ : List Item} → Shared (string s) m₁ m₂ → Match L NotMatch noAttributes m₁ (L .pattern p₁) → Match L NotMatch noAttributes m₂ (L .pattern p₂) → Either p₁ p₂ s
   shared p₁ p₂ to-first d₁ d₂ = inl (d₁, d₂)
   shared p₁ p₂ to-second d₁ d₂ = inr (d₁, d₂)
 
@@ -122,15 +122,15 @@ module _ (L : Lookups) (NotMatch : List ℕ → ℕ → Type 0) where
         from (inr d) = rw e (interleave (d .0) (d .1) (interleaved (shared-shuffle to-second)))
 
   -- steps of oneOrMore without items can be left out
-  null-more : {a : Attributes} {m : List Item} {q : ℕ} → Match L NotMatch a m (pattern.oneOrMore q) → a ≡ none → m ≡ [] → Null q
+  null-more : {a : Attributes} {m : List Item} {q : ℕ} → Match L NotMatch a m (pattern.oneOrMore q) → a ≡ noAttributes → m ≡ [] → Null q
   null-more (oneOrMore-1 d) e f = cast L NotMatch e f d
   null-more (oneOrMore-2 {a₁ = a₁} {a₂ = a₂} {m₁ = m₁} {m₂ = m₂} d₁ d₂ z) e f = cast L NotMatch (none-left a₁ a₂ e) (no-items m₁ m₂ (sym f) .0) d₁
 
-  lone-step : {s : List ℕ} {q : ℕ} {m₁ m₂ : List Item} → Shared (string s) m₁ m₂ → Match L NotMatch none m₁ (L .pattern q) → (m₂ ≡ string s ∷ [] → Lone q s) → Lone q s
+  lone-step : {s : List ℕ} {q : ℕ} {m₁ m₂ : List Item} → Shared (string s) m₁ m₂ → Match L NotMatch noAttributes m₁ (L .pattern q) → (m₂ ≡ string s ∷ [] → Lone q s) → Lone q s
   lone-step to-first d f = d
   lone-step to-second d f = f refl
 
-  lone-more : {a : Attributes} {m : List Item} {q : ℕ} {s : List ℕ} → Match L NotMatch a m (pattern.oneOrMore q) → a ≡ none → m ≡ string s ∷ [] → Lone q s
+  lone-more : {a : Attributes} {m : List Item} {q : ℕ} {s : List ℕ} → Match L NotMatch a m (pattern.oneOrMore q) → a ≡ noAttributes → m ≡ string s ∷ [] → Lone q s
   lone-more (oneOrMore-1 d) e f = cast L NotMatch e f d
   lone-more {s = s} (oneOrMore-2 {a₁ = a₁} {a₂ = a₂} {m₁ = m₁} {m₂ = m₂} d₁ d₂ z) e f =
       lone-step (share (string s) m₁ m₂ (sym f)) (cast L NotMatch (none-left a₁ a₂ e) refl d₁) (λ g. lone-more d₂ (none-right a₁ a₂ e) g)

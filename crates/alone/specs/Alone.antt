@@ -12,7 +12,7 @@ use Rattle.schema.specs.Rows.{rowsOf}
 use Rattle.schema.specs.RowRule.{maxRows}
 use Rattle.schema.specs.Views.{patternOf}
 use Rattle.restrictions.specs.Schema.{SchemaPasses}
-use Rattle.rules.specs.Items.{string, none}
+use Rattle.rules.specs.Items.{string, noAttributes}
 use Rattle.rules.specs.Rules.{Matches}
 use Rattle.rules.specs.Job.{lookups}
 
@@ -26,11 +26,11 @@ Blank T blank = (k : ℕ) → k < instanceStrings T → (getD blank k 0 ≡ 1) �
 
 -- v is 1 exactly when the string alone, with no attributes, matches the pattern at row p
 abbrev pub TellsString : (J : Tables) (p k v : ℕ) → Type 0
-TellsString J p k v = (v ≡ 1) ↔ Matches (lookups J) none (string (textOf (J .strings) k) ∷ []) (patternOf (J .schema) p)
+TellsString J p k v = (v ≡ 1) ↔ Matches (lookups J) noAttributes (string (textOf (J .strings) k) ∷ []) (patternOf (J .schema) p)
 
 -- and so the empty sequence
 abbrev pub TellsNothing : (J : Tables) (p v : ℕ) → Type 0
-TellsNothing J p v = (v ≡ 1) ↔ Matches (lookups J) none [] (patternOf (J .schema) p)
+TellsNothing J p v = (v ≡ 1) ↔ Matches (lookups J) noAttributes [] (patternOf (J .schema) p)
 
 -- the entries of the rows below n, whatever the instance is
 pub record Alone (T : StringTable) (s alone nothing : List ℕ) (n : ℕ) : Type 0 where
@@ -38,7 +38,7 @@ pub record Alone (T : StringTable) (s alone nothing : List ℕ) (n : ℕ) : Type
   pub empty : (t : List ℕ) (p : ℕ) → p < n → TellsNothing (tablesOf T s t) p (getD nothing p 0)
 
 -- the schema passes, and the tables have room for all rows and strings
-pub record Ready (T : StringTable) (s alone nothing blank : List ℕ) : Type 0 where
+pub record FillReady (T : StringTable) (s alone nothing blank : List ℕ) : Type 0 where
   pub passes : SchemaPasses (schemaStrings T) s
   pub few-strings : instanceStrings T ≤ maxStrings
   pub long-alone : maxRows * maxStrings ≤ length alone

@@ -23,8 +23,8 @@ NotOf alone a k v = (v ≡ 1) ↔ ¬ (entry alone a k ≡ 1)
 
 -- data: 1 without an except, and otherwise where the except's entry is not 1
 pub record DataEntry (alone : List ℕ) (except k v : ℕ) : Type 0 where
-  pub all : except ≡ kind.none → v ≡ 1
-  pub but : except ≢ kind.none → NotOf alone except k v
+  pub all : except ≡ kind.noRow → v ≡ 1
+  pub but : except ≢ kind.noRow → NotOf alone except k v
 
 -- one of two patterns matches the string alone, and the other the empty sequence
 abbrev pub OneSide : (alone nothing : List ℕ) (a b k : ℕ) → Type 0

@@ -10,9 +10,9 @@ ghost use Rattle.strings.specs.Strings.{textOf};
 ghost use Rattle.datatypes.specs.Whitespace.{whitespace};
 ghost use Rattle.restrictions.specs.Schema.{SchemaPasses};
 ghost use Rattle.rules.specs.Job.{datatypeEqual};
-ghost use Rattle.schema.specs.Kinds.{none, value};
+ghost use Rattle.schema.specs.Kinds.{noRow, value};
 ghost use Rattle.schema.specs.Rows.{kindOf};
-ghost use Rattle.alone.specs.Alone.{Blank, Alone, Ready, Filled};
+ghost use Rattle.alone.specs.Alone.{Blank, Alone, FillReady, Filled};
 ghost use Rattle.alone.specs.Rows.{EitherOf, NotOf, DataEntry, OneOf, EqualTo, SameRow, leadOf, LeadsTo, NothingAt, RowOf, RowMade};
 
 fn either(x: u8, y: u8) -> u8
@@ -175,9 +175,9 @@ fn fill_neither(alone: &mut [u8], p: u32, n: usize, a: u32)
 // The entries of data: every string matches, but for those that match its except.
 fn fill_data(alone: &mut [u8], p: u32, n: usize, except: u32)
     requires { ⌜ (p < 512) × (n ≤ 512) × (262144 ≤ length (now alone)) ⌝ }
-    ensures { λ _. ⌜ ((except ≢ none → except < p) → RowOf (DataEntry (now (alone .entry)) except) (now (alone .entry)) (now (alone .exit)) p n) ⌝ }
+    ensures { λ _. ⌜ ((except ≢ noRow → except < p) → RowOf (DataEntry (now (alone .entry)) except) (now (alone .entry)) (now (alone .exit)) p n) ⌝ }
 {
-    if except == schema::NONE {
+    if except == schema::NO_ROW {
         fill_same(alone, p, n, 1);
         return;
     }
@@ -364,7 +364,7 @@ pub fn fill(
     nothing: &mut [u8],
     blank: &mut [u8],
 )
-    requires { ⌜ Ready (stringTable (now bytes) (now ends)) (now schema) (now alone) (now nothing) (now blank) ⌝ }
+    requires { ⌜ FillReady (stringTable (now bytes) (now ends)) (now schema) (now alone) (now nothing) (now blank) ⌝ }
     ensures { λ _. ⌜ Filled (stringTable (now (bytes .entry)) (now (ends .entry))) (now (schema .entry)) (now (alone .exit)) (now (nothing .exit)) (now (blank .exit)) ⌝ }
 {
     fill_blank(bytes, ends, blank);

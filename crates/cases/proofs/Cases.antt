@@ -4,7 +4,7 @@ use mathlib.Core.Bool.{true}
 use Rattle.datatypes.specs.Whitespace.{space}
 use Rattle.schema.specs.Falling.{upto}
 use Rattle.schema.specs.Rows.{shapeOf}
-use Rattle.schema.specs.RowRule.{usesBelow}
+use Rattle.schema.specs.RowRule.{usesBefore}
 use Rattle.schema.specs.Views.{patternBy, classBy}
 use Rattle.classes.specs.Membership as class
 use Rattle.instance.specs.Elements.{rowsWhere}
@@ -31,7 +31,7 @@ use Rattle.cases.proofs.Checked.{check, checkAll, all-checked}
 
 -- every row of the table succeeds, by computation
 checked : checkAll table ≡ true
-unfolding space upto shapeOf usesBelow patternBy classBy class.holds rowsWhere fieldsRight howMany typeBy clashBy run everyBelow someBelow stringsTest childTest insideTest rowsTest noneBelow placesTest namesTest pathsTest typeBelow clashTest meetTest leastTest sharedTest attributesTest interleaveTest passTest refusedTest upTest parentTest nodesTest widthTest reachTest plusTest spanTest pairTest validTest check
+unfolding space upto shapeOf usesBefore patternBy classBy class.holds rowsWhere fieldsRight howMany typeBy clashBy run everyBelow someBelow stringsTest childTest insideTest rowsTest noneBelow placesTest namesTest pathsTest typeBelow clashTest meetTest leastTest sharedTest attributesTest interleaveTest passTest refusedTest upTest parentTest nodesTest widthTest reachTest plusTest spanTest pairTest validTest check
 checked = refl
 
 -- P1 to P12

@@ -27,7 +27,7 @@ use Rattle.rules.specs.Listed.{Precedes, Rising, rising-none, rising-one, risin
 use Rattle.rules.specs.Rules.{Proved, NotMatchBy}
 use Rattle.tables.proofs.Booleans.{or-either, and-left, and-right}
 use Rattle.rules.proofs.Inversion.{against}
-use Rattle.cases.specs.Meaning.{tablesAt, Expected, matches, least, refused, Row, IsValid, NotRefused, Matching, Says, Holds, AllHold, none-left, holds}
+use Rattle.cases.specs.Meaning.{tablesAt, Expected, matches, least, refused, Row, IsValid, NotRefused, Matching, CaseSays, CaseHolds, AllHold, none-left, holds}
 use Rattle.cases.proofs.Tests.{everyBelow, every-below, no-of}
 use Rattle.cases.proofs.ClassTests.{leastTest, least-test}
 use Rattle.cases.proofs.InstanceTests.{nodesTest, nodes-right, widthTest, not-wide}
@@ -194,7 +194,7 @@ module _ (r : Row) where
   expectedTest (least c d u l) = leastIs c d u l
   expectedTest (refused code place) = refusedTest (tablesAt r .strings) s code place
 
-  says : (x : Expected) → expectedTest x ≡ true → Says r x
+  says : (x : Expected) → expectedTest x ≡ true → CaseSays r x
   says (matches pairs valid) h = matching pairs valid h
   says (least c d u l) h =
       let p = and-left (passTest (tablesAt r .strings) s) (leastTest (instanceStrings (tablesAt r .strings)) s c d u l) h in
@@ -205,7 +205,7 @@ module _ (r : Row) where
 unfoldable pub check : Row → Bool
 check r = expectedTest r (r .expected)
 
-pub check-holds : (r : Row) → check r ≡ true → Holds r
+pub check-holds : (r : Row) → check r ≡ true → CaseHolds r
 unfolding check
 check-holds r h = says r (r .expected) h
 

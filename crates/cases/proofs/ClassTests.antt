@@ -11,7 +11,7 @@ use borrow.Author.Tests.{eqb-true, lt-ltb, ltb-true}
 use Rattle.tables.proofs.Numbers.{not-less}
 use Rattle.schema.specs.RowRule.{RowsRight}
 use Rattle.classes.specs.Membership.{inClass}
-use Rattle.classes.specs.Least.{Common, Before, Least}
+use Rattle.classes.specs.Least.{Common, NotAfter, LeastCommon}
 use Rattle.classes.specs.declared.Found.the-variants.{Name}
 use Rattle.classes.proofs.SmallNames.{small-name}
 use Rattle.tables.proofs.Booleans.{or-either, and-left, and-right, both-and}
@@ -59,22 +59,22 @@ module _ (strings : ℕ) (s : List ℕ) (c d : ℕ) where
     unfoldable pub leastTest : Bool
     leastTest = bothHold u l && allLater
 
-    not-before : (v k : ℕ) → notBefore v k ≡ true → Before u l v k
+    not-before : (v k : ℕ) → notBefore v k ≡ true → NotAfter u l v k
     not-before v k e =
         elim (or-either (ltb u v) (eqb u v && not (ltb k l)) e) [
           | inl z ↦ inl (ltb-true u v z)
           | inr z ↦ inr (eqb-true u v (and-left (eqb u v) (not (ltb k l)) z), not-less (λ h. no-of (and-right (eqb u v) (not (ltb k l)) z) (lt-ltb k l h)))
         ]
 
-    later : (v k x y : ℕ) → x ≤ v → y ≤ k → Before u l x y → Before u l v k
+    later : (v k x y : ℕ) → x ≤ v → y ≤ k → NotAfter u l x y → NotAfter u l v k
     later v k x y i j (inl h) = inl (omega arith)
     later v k x y i j (inr h) = go (decLt u v)
       where
-        go : Dec (u < v) → Before u l v k
+        go : Dec (u < v) → NotAfter u l v k
         go (yes z) = inl z
         go (no z) = let a = h .0 in let b = h .1 in inr (omega arith, omega arith)
 
-    pub least-test : RowsRight strings s → leastTest ≡ true → Least s c d (Name u l)
+    pub least-test : RowsRight strings s → leastTest ≡ true → LeastCommon s c d (Name u l)
     unfolding leastTest
     least-test right pass = (record { first = and-left (inClass s u l c) (inClass s u l d) here; second = and-right (inClass s u l c) (inClass s u l d) here }, first)
       where
@@ -84,7 +84,7 @@ module _ (strings : ℕ) (s : List ℕ) (c d : ℕ) where
         tested : (v k : ℕ) → v < bound strings → k < bound strings → laterTest v k ≡ true
         tested v k i j = every-below (laterTest v) (bound strings) (every-below (λ v. everyBelow (laterTest v) (bound strings)) (bound strings) (and-right (bothHold u l) allLater pass) v i) k j
 
-        first : (v k : ℕ) → Common s c d v k → Before u l v k
+        first : (v k : ℕ) → Common s c d v k → NotAfter u l v k
         first v k h =
             let n = small-name right c d v k h in
             let a = n .low-namespace in

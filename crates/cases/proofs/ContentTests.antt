@@ -31,11 +31,11 @@ module _ (s : List ℕ) where
   clashTest r = clashBy (kindOf s r) (typeIf (namesA s r) (typeBelow r) (childA s r)) (typeIf (namesB s r) (typeBelow r) (childB s r))
 
   module _ (right : SizeRight s) where
-    none-type : TypeIs s kind.none noType
-    none-type = no-row-type s kind.none right (let l = few-rows right in omega arith)
+    none-type : TypeIs s kind.noRow noType
+    none-type = no-row-type s kind.noRow right (let l = few-rows right in omega arith)
 
     -- the child of a row through a field that names one, and through one that does not
-    type-if : (named : Bool) (x n : ℕ) → ((q : ℕ) → q < n → TypeIs s q (typeBelow n q)) → (named ≡ true → x < n) → TypeIs s (cond named x kind.none) (typeIf named (typeBelow n) (cond named x kind.none))
+    type-if : (named : Bool) (x n : ℕ) → ((q : ℕ) → q < n → TypeIs s q (typeBelow n q)) → (named ≡ true → x < n) → TypeIs s (cond named x kind.noRow) (typeIf named (typeBelow n) (cond named x kind.noRow))
     type-if true x n rest h = rest x (h refl)
     type-if false x n rest h = none-type
 

@@ -20,7 +20,7 @@ module _ (s : List ℕ) where
   unfoldable pub childTest : (ℕ → Bool) → ℕ → Bool
   childTest t p = elim (viaA t p) [ true ↦ true | false ↦ viaB t p ]
 
-  pub child-test : (t : ℕ → Bool) {p q : ℕ} → Child s p q → t q ≡ true → childTest t p ≡ true
+  pub child-test : (t : ℕ → Bool) {p q : ℕ} → Child s q p → t q ≡ true → childTest t p ≡ true
   unfolding childTest
   child-test t {p} (by-a n e) h = rw (guarded (namesA s p) n (ap t e ∙ h), childTest)
   child-test t {p} (by-b n e) h = go (viaA t p)
@@ -29,12 +29,12 @@ module _ (s : List ℕ) where
       go true = refl
       go false = guarded (namesB s p) n (ap t e ∙ h)
 
-  pub test-child : (t : ℕ → Bool) {p : ℕ} → childTest t p ≡ true → (q : ℕ) × Child s p q × (t q ≡ true)
+  pub test-child : (t : ℕ → Bool) {p : ℕ} → childTest t p ≡ true → (q : ℕ) × Child s q p × (t q ≡ true)
   unfolding childTest
   test-child t {p} = go (viaA t p) refl
     where
       go : (b : Bool) → viaA t p ≡ b
-          → elim b [ true ↦ true | false ↦ viaB t p ] ≡ true → (q : ℕ) × Child s p q × (t q ≡ true)
+          → elim b [ true ↦ true | false ↦ viaB t p ] ≡ true → (q : ℕ) × Child s q p × (t q ≡ true)
       go true f e = let u = unguarded (namesA s p) (t (aOf s p)) f in (aOf s p, by-a (u .0) refl, u .1)
       go false f e = let u = unguarded (namesB s p) (t (bOf s p)) e in (bOf s p, by-b (u .0) refl, u .1)
 
@@ -50,7 +50,7 @@ module _ (s : List ℕ) where
   unfolding insideTest
   inside-here gate t n p h = rw (h, insideTest)
 
-  inside-child : (gate t : ℕ → Bool) (n : ℕ) {p q : ℕ} → gate (kindOf s p) ≡ true → Child s p q → insideTest gate t n q ≡ true → insideTest gate t (suc n) p ≡ true
+  inside-child : (gate t : ℕ → Bool) (n : ℕ) {p q : ℕ} → gate (kindOf s p) ≡ true → Child s q p → insideTest gate t n q ≡ true → insideTest gate t (suc n) p ≡ true
   unfolding insideTest
   inside-child gate t n {p} g c h = go (t p)
     where
@@ -90,13 +90,13 @@ module _ (s : List ℕ) where
       let u = test-child (insideTest any t n) (below-test t n (omega arith) b h) in
       child-test (insideTest any t (suc n)) c (inside-child any t n refl (u .1) (u .2))
 
-  reach : (t : ℕ → Bool) (n q : ℕ) {p : ℕ} → Child s p q → insideTest any t n q ≡ true → (r : ℕ) × Below s r p × (t r ≡ true)
+  reach : (t : ℕ → Bool) (n q : ℕ) {p : ℕ} → Child s q p → insideTest any t n q ≡ true → (r : ℕ) × Below s r p × (t r ≡ true)
   unfolding insideTest
   reach t zero q c e = absurd (false≢true e)
   reach t (suc n) q {p} c e = go (t q) refl e (λ x y c e. reach t n x c e)
     where
       go : (b : Bool) → t q ≡ b → elim b [ true ↦ true | false ↦ childTest (insideTest any t n) q ] ≡ true
-          → ((x y : ℕ) → Child s y x → insideTest any t n x ≡ true → (r : ℕ) × Below s r y × (t r ≡ true)) → (r : ℕ) × Below s r p × (t r ≡ true)
+          → ((x y : ℕ) → Child s x y → insideTest any t n x ≡ true → (r : ℕ) × Below s r y × (t r ≡ true)) → (r : ℕ) × Below s r p × (t r ≡ true)
       go true h e rest = (q, child c, h)
       go false h e rest =
           let d = test-child (insideTest any t n) e in

@@ -7,8 +7,8 @@ use native.Mathlib.Omega.{arith}
 use lib.Dec.{eqb, ltb}
 use lib.ListN.{length}
 use borrow.Author.Tests.{eqb-true, eqb-false, eq-eqb, lt-ltb, ltb-true}
-use Rattle.instance.specs.Nodes.{element, attribute, text, none, nodesOf, kindOf, parentOf, aOf, bOf, cOf, isChild, isAttribute}
-use Rattle.instance.specs.NodeRule.{maxNodes, fieldsRight, nearest, Up, itself, above, ParentRight, SizeFault, no-node, too-many-nodes, broken-length, WrongNode, bad-fields, bad-parent, late-attribute, same-attribute, text-after-text, bad-size, bad-node, NodesRight}
+use Rattle.instance.specs.Nodes.{element, attribute, text, noParent, nodesOf, kindOf, parentOf, aOf, bOf, cOf, isChild, isAttribute}
+use Rattle.instance.specs.NodeRule.{maxNodes, fieldsRight, nearest, SelfOrAncestor, itself, above, ParentRight, SizeFault, no-node, too-many-nodes, broken-length, WrongNode, bad-fields, bad-parent, late-attribute, same-attribute, text-after-text, bad-size, bad-node, NodesRight}
 use Rattle.instance.specs.Width.{maxWidth, howMany, WidthFault, many-attributes, many-children}
 use Rattle.tables.proofs.Booleans.{and-left, and-right, both-and}
 use Rattle.cases.proofs.Tests.{everyBelow, every-below, below-every, no-of}
@@ -23,30 +23,30 @@ module _ (strings : ℕ) (t : List ℕ) where
   -- q is e or an ancestor of e, at most n steps up
   unfoldable pub upTest : ℕ → ℕ → ℕ → Bool
   upTest zero q e = eqb q e
-  upTest (suc n) q e = elim (eqb q e) [ true ↦ true | false ↦ elim (eqb e none) [ true ↦ false | false ↦ upTest n q (parentOf t e) ] ]
+  upTest (suc n) q e = elim (eqb q e) [ true ↦ true | false ↦ elim (eqb e noParent) [ true ↦ false | false ↦ upTest n q (parentOf t e) ] ]
 
-  up-test : (n q e : ℕ) → upTest n q e ≡ true → Up t q e
+  up-test : (n q e : ℕ) → upTest n q e ≡ true → SelfOrAncestor t q e
   unfolding upTest
   up-test zero q e h = rw (eqb-true q e h) itself
-  up-test (suc n) q e h = go (eqb q e) refl (eqb e none) refl h (up-test n q (parentOf t e))
+  up-test (suc n) q e h = go (eqb q e) refl (eqb e noParent) refl h (up-test n q (parentOf t e))
     where
-      go : (a : Bool) → eqb q e ≡ a → (b : Bool) → eqb e none ≡ b → elim a [ true ↦ true | false ↦ elim b [ true ↦ false | false ↦ upTest n q (parentOf t e) ] ] ≡ true
-          → (upTest n q (parentOf t e) ≡ true → Up t q (parentOf t e)) → Up t q e
+      go : (a : Bool) → eqb q e ≡ a → (b : Bool) → eqb e noParent ≡ b → elim a [ true ↦ true | false ↦ elim b [ true ↦ false | false ↦ upTest n q (parentOf t e) ] ] ≡ true
+          → (upTest n q (parentOf t e) ≡ true → SelfOrAncestor t q (parentOf t e)) → SelfOrAncestor t q e
       go true f b g h rest = rw (eqb-true q e f) itself
       go false f true g h rest = absurd (false≢true h)
-      go false f false g h rest = above (eqb-false e none g) (rest h)
+      go false f false g h rest = above (eqb-false e noParent g) (rest h)
 
   unfoldable pub parentTest : ℕ → Bool
-  parentTest zero = eqb (kindOf t 0) element && eqb (parentOf t 0) none
-  parentTest (suc r) = not (eqb (parentOf t (suc r)) none) && upTest (nodesOf t) (parentOf t (suc r)) (nearest t r)
+  parentTest zero = eqb (kindOf t 0) element && eqb (parentOf t 0) noParent
+  parentTest (suc r) = not (eqb (parentOf t (suc r)) noParent) && upTest (nodesOf t) (parentOf t (suc r)) (nearest t r)
 
   parent-test : (r : ℕ) → parentTest r ≡ true → ParentRight t r
   unfolding parentTest ParentRight
   parent-test zero h =
-      (eqb-true (kindOf t 0) element (and-left (eqb (kindOf t 0) element) (eqb (parentOf t 0) none) h), eqb-true (parentOf t 0) none (and-right (eqb (kindOf t 0) element) (eqb (parentOf t 0) none) h))
+      (eqb-true (kindOf t 0) element (and-left (eqb (kindOf t 0) element) (eqb (parentOf t 0) noParent) h), eqb-true (parentOf t 0) noParent (and-right (eqb (kindOf t 0) element) (eqb (parentOf t 0) noParent) h))
   parent-test (suc r) h = (
-    λ e. no-of (and-left (not (eqb (parentOf t (suc r)) none)) (upTest (nodesOf t) (parentOf t (suc r)) (nearest t r)) h) (eq-eqb (parentOf t (suc r)) none e),
-    up-test (nodesOf t) (parentOf t (suc r)) (nearest t r) (and-right (not (eqb (parentOf t (suc r)) none)) (upTest (nodesOf t) (parentOf t (suc r)) (nearest t r)) h),
+    λ e. no-of (and-left (not (eqb (parentOf t (suc r)) noParent)) (upTest (nodesOf t) (parentOf t (suc r)) (nearest t r)) h) (eq-eqb (parentOf t (suc r)) noParent e),
+    up-test (nodesOf t) (parentOf t (suc r)) (nearest t r) (and-right (not (eqb (parentOf t (suc r)) noParent)) (upTest (nodesOf t) (parentOf t (suc r)) (nearest t r)) h),
   )
 
   -- row r is at odds with an earlier row q

@@ -4,7 +4,7 @@ use mathlib.Core.Bool.{Bool, true, false, not, _&&_, _||_}
 use mathlib.Core.List.{List, [], _∷_}
 use lib.Dec.{eqb, ltb}
 use Rattle.schema.specs.Views.{Pattern, empty, notAllowed, text, dataAll, dataExcept, value, attribute, ref, oneOrMore, choice, group, interleave, noPattern}
-use Rattle.rules.specs.Items.{Item, element, string, Attributes, none, only, Lookups}
+use Rattle.rules.specs.Items.{Item, element, string, Attributes, noAttributes, only, Lookups}
 use Rattle.rules.proofs.Booleans.{_∩_, _∖_}
 use Rattle.rules.specs.Reach.{namesAttribute, takes}
 use Rattle.rules.specs.Spans.{run}
@@ -56,14 +56,14 @@ module _ (N : ℕ) where
   abbrev pub repeatTest : Test → (ℕ → Item) → Attributes → (ℕ → Bool) → ℕ → ℕ → ℕ → Bool
   repeatTest rec it A K q i j =
       elim (someBelow A N) [
-        | true ↦ eachTest A (λ x. rec it (only x) K q i i) && (noItem (run it K i (j - i)) || plusTest (rec it none K q) j i j)
-        | false ↦ plusTest (rec it none K q) j i j
+        | true ↦ eachTest A (λ x. rec it (only x) K q i i) && (noItem (run it K i (j - i)) || plusTest (rec it noAttributes K q) j i j)
+        | false ↦ plusTest (rec it noAttributes K q) j i j
       ]
 
 module _ (L : Lookups) where
   -- a string weakly, with no attributes
   abbrev pub weakStringTest : Test → ℕ → List ℕ → Bool
-  weakStringTest rec q s = stringTest rec none q s || L .whitespace s && nothingTest rec none q
+  weakStringTest rec q s = stringTest rec noAttributes q s || L .whitespace s && nothingTest rec noAttributes q
 
   abbrev pub attributeTest : ℕ → Test → Attributes → ℕ → ℕ → ℕ → Bool
   attributeTest N rec A nc q x = elim (A x) [ true ↦ eachTest N A (eqb x) && (L .inClass nc x && weakStringTest rec q (L .value x)) | false ↦ false ]
@@ -85,7 +85,7 @@ module _ (L : Lookups) (N : ℕ) (equal : ℕ → List ℕ → List ℕ → Bool
   kindTest rec n it A K i j notAllowed = false
   kindTest rec n it A K i j text = freeTest N A && not (hasElement (run it K i (j - i)))
   kindTest rec n it A K i j (dataAll t) = freeTest N A && oneItem (onString (λ s. true)) (run it K i (j - i))
-  kindTest rec n it A K i j (dataExcept t q) = freeTest N A && oneItem (onString (λ s. not (stringTest rec none q s))) (run it K i (j - i))
+  kindTest rec n it A K i j (dataExcept t q) = freeTest N A && oneItem (onString (λ s. not (stringTest rec noAttributes q s))) (run it K i (j - i))
   kindTest rec n it A K i j (value t k) = freeTest N A && oneItem (onString (λ s. equal t s (L .text k))) (run it K i (j - i))
   kindTest rec n it A K i j (attribute nc q) = someBelow (attributeTest L N rec A nc q) N && noItem (run it K i (j - i))
   kindTest rec n it A K i j (ref d) = freeTest N A && oneItem (onElement (λ e. pair e d)) (run it K i (j - i))

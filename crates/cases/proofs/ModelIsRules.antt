@@ -11,7 +11,7 @@ use Rattle.tables.proofs.Numbers.{not-less}
 use Rattle.schema.specs.Views.{Pattern}
 use Rattle.schema.specs.Views as pattern
 use Rattle.relations.specs.Relations.{Plus, Then}
-use Rattle.rules.specs.Items.{Item, element, string, Attributes, none, only, Lookups}
+use Rattle.rules.specs.Items.{Item, element, string, Attributes, noAttributes, only, Lookups}
 use Rattle.rules.specs.Rules.{Match, WeakMatch, NotMatchBy}
 use Rattle.tables.proofs.Booleans.{and-left, and-right}
 use Rattle.rules.proofs.Booleans.{_∩_, _∖_}
@@ -21,7 +21,7 @@ use Rattle.rules.proofs.Inversion.{One, AttributeMatch}
 use Rattle.rules.proofs.Occurrences.{clean-part}
 use Rattle.rules.proofs.OneElement.{strings-clean, weak-string}
 use Rattle.rules.proofs.Positions.{among-run}
-use Rattle.rules.specs.Reach.{Part, operand, of-attribute, of-except, repeated, choice-first, choice-second, group-first, group-second, interleave-first, interleave-second, Reaches, namesAttribute, takes}
+use Rattle.rules.specs.Reach.{Subpattern, operand, of-attribute, of-except, repeated, choice-first, choice-second, group-first, group-second, interleave-first, interleave-second, Reaches, namesAttribute, takes}
 use Rattle.rules.proofs.Repeats.{distinct-part, span-oneOrMore, span-oneOrMore-attributes}
 use Rattle.rules.specs.Restricted.{Restricted}
 use Rattle.rules.proofs.Sequences.{hasElement, first}
@@ -68,13 +68,13 @@ module _ (L : Lookups) (R : Restricted L) (N : ℕ) (equal : ℕ → List ℕ �
   fits-part {it} {A} {B} {K} {J} f b k =
       record { bound = λ x h. f .bound x (b x h); distinct = distinct-part L A B b (f .distinct); clean = clean-part L it K J k (f .clean); known = f .known }
 
-  fits-none : {it : ℕ → Item} {A : Attributes} {K : ℕ → Bool} → Fits it A K → Fits it none K
+  fits-none : {it : ℕ → Item} {A : Attributes} {K : ℕ → Bool} → Fits it A K → Fits it noAttributes K
   fits-none f = fits-part f (λ x h. absurd (false≢true h)) (λ k h. h)
 
-  no-attributes : Bound N none
+  no-attributes : Bound N noAttributes
   no-attributes x h = absurd (false≢true h)
 
-  no-twins : Distinct L none
+  no-twins : Distinct L noAttributes
   no-twins x y h = absurd (false≢true h)
 
   module _ {n : ℕ} {rec : Test} (decided : Decided n rec) where
@@ -85,11 +85,11 @@ module _ (L : Lookups) (R : Restricted L) (N : ℕ) (equal : ℕ → List ℕ �
     pub nothing-decided : (A : Attributes) → Bound N A → Distinct L A → (q : ℕ) → q < n → (nothingTest rec A q ≡ true) ↔ Match L Not A [] (L .pattern q)
     nothing-decided A b d q l = Iff·trans (decided (λ k. string []) A all q 0 0 l (fits-string [] A b d)) (span-nowhere L Not A (λ k. string []) all q 0)
 
-    weak-string-decided : (q : ℕ) (s : List ℕ) → q < n → (weakStringTest L rec q s ≡ true) ↔ WeakMatch L Not none (string s ∷ []) (L .pattern q)
+    weak-string-decided : (q : ℕ) (s : List ℕ) → q < n → (weakStringTest L rec q s ≡ true) ↔ WeakMatch L Not noAttributes (string s ∷ []) (L .pattern q)
     weak-string-decided q s l =
-        Iff·trans (either-decides (stringTest rec none q s) (L .whitespace s && nothingTest rec none q) (string-decided none no-attributes no-twins q s l)
-        (both-decide (L .whitespace s) (nothingTest rec none q) Iff·rfl (nothing-decided none no-attributes no-twins q l)))
-        (Iff·symm (weak-string L Not none (L .pattern q) s))
+        Iff·trans (either-decides (stringTest rec noAttributes q s) (L .whitespace s && nothingTest rec noAttributes q) (string-decided noAttributes no-attributes no-twins q s l)
+        (both-decide (L .whitespace s) (nothingTest rec noAttributes q) Iff·rfl (nothing-decided noAttributes no-attributes no-twins q l)))
+        (Iff·symm (weak-string L Not noAttributes (L .pattern q) s))
 
     module _ (it : ℕ → Item) (A : Attributes) (K : ℕ → Bool) (fits : Fits it A K) (p i j : ℕ) (ordered : i ≤ j) where
       abbrev items : List Item
@@ -106,7 +106,7 @@ module _ (L : Lookups) (R : Restricted L) (N : ℕ) (equal : ℕ → List ℕ �
           → ((someBelow (attributeTest L N rec A nc q) N && noItem items) ≡ true) ↔ ((i ≤ j) × AttributeMatch L Not A items nc (L .pattern q))
       attribute-decided nc q l = (to, from)
         where
-          at : (x : ℕ) → (attributeTest L N rec A nc q x ≡ true) ↔ ((A x ≡ true) × (((y : ℕ) → A y ≡ true → eqb x y ≡ true) × ((L .inClass nc x ≡ true) × WeakMatch L Not none (string (L .value x) ∷ []) (L .pattern q))))
+          at : (x : ℕ) → (attributeTest L N rec A nc q x ≡ true) ↔ ((A x ≡ true) × (((y : ℕ) → A y ≡ true → eqb x y ≡ true) × ((L .inClass nc x ≡ true) × WeakMatch L Not noAttributes (string (L .value x) ∷ []) (L .pattern q))))
           at x =
               guarded-decides (A x) (eachTest N A (eqb x) && (L .inClass nc x && weakStringTest L rec q (L .value x))) Iff·rfl
               (both-decide (eachTest N A (eqb x)) (L .inClass nc x && weakStringTest L rec q (L .value x)) (each-set N A (fits .bound) (eqb x))
@@ -134,10 +134,10 @@ module _ (L : Lookups) (R : Restricted L) (N : ℕ) (equal : ℕ → List ℕ �
               (some-below (attributeTest L N rec A nc q) N (m .row) (fits .bound (m .row) (o .0)) (at (m .row) .1 (o .0, (o .1, (m .named, m .valued)))), m .sequence)
 
       -- (oneOrMore 1) and (oneOrMore 2)
-      plus-decided : (q : ℕ) → q < n → (plusTest (rec it none K q) j i j ≡ true) ↔ Plus (SpanOf it none K q) i j
+      plus-decided : (q : ℕ) → q < n → (plusTest (rec it noAttributes K q) j i j ≡ true) ↔ Plus (SpanOf it noAttributes K q) i j
       plus-decided q l = (
-        test-plus (rec it none K q) (λ i j. decided it none K q i j l (fits-none fits) .0) j i j,
-        plus-test (rec it none K q) (λ i j. decided it none K q i j l (fits-none fits) .1) (λ i j s. s .0) j (omega arith),
+        test-plus (rec it noAttributes K q) (λ i j. decided it noAttributes K q i j l (fits-none fits) .0) j i j,
+        plus-test (rec it noAttributes K q) (λ i j. decided it noAttributes K q i j l (fits-none fits) .1) (λ i j s. s .0) j (omega arith),
       )
 
       single-decided : (q : ℕ) → q < n → (eachTest N A (λ x. rec it (only x) K q i i) ≡ true) ↔ ((x : ℕ) → A x ≡ true → Match L Not (only x) [] (L .pattern q))
@@ -153,12 +153,12 @@ module _ (L : Lookups) (R : Restricted L) (N : ℕ) (equal : ℕ → List ℕ �
       repeat-decided q l e = go (someBelow A N) refl
         where
           go : (b : Bool) → someBelow A N ≡ b
-              → (elim b [ true ↦ eachTest N A (λ x. rec it (only x) K q i i) && (noItem items || plusTest (rec it none K q) j i j) | false ↦ plusTest (rec it none K q) j i j ] ≡ true) ↔ SpanOf it A K p i j
+              → (elim b [ true ↦ eachTest N A (λ x. rec it (only x) K q i i) && (noItem items || plusTest (rec it noAttributes K q) j i j) | false ↦ plusTest (rec it noAttributes K q) j i j ] ≡ true) ↔ SpanOf it A K p i j
           go true f =
               let x = below-some A N f in
               let w = span-oneOrMore-attributes L Not it K q R A N (x .0) (fits .bound) (x .2) (fits .distinct) p i j e in
-              let d = both-decide (eachTest N A (λ x. rec it (only x) K q i i)) (noItem items || plusTest (rec it none K q) j i j) (single-decided q l)
-              (either-decides (noItem items) (plusTest (rec it none K q) j i j) (no-item items) (plus-decided q l)) in
+              let d = both-decide (eachTest N A (λ x. rec it (only x) K q i i)) (noItem items || plusTest (rec it noAttributes K q) j i j) (single-decided q l)
+              (either-decides (noItem items) (plusTest (rec it noAttributes K q) j i j) (no-item items) (plus-decided q l)) in
               (λ h. let g = d .0 h in w .1 (record { ordered = ordered; single = g .0; items = g .1 }), λ s. let g = w .0 s in d .1 (g .single, g .items))
           go false f =
               let z = free-set N A (fits .bound) f in
@@ -213,8 +213,8 @@ module _ (L : Lookups) (R : Restricted L) (N : ℕ) (equal : ℕ → List ℕ �
       element-known : (e d : ℕ) → items ≡ element e ∷ [] → (pair e d ≡ true) ↔ Paired L Not e d
       element-known e d m = let a = among-run it K {y = element e} i (j - i) (rw m (first refl)) in fits .known (a .place) e d (a .item)
 
-      part : {x : Pattern} (q : ℕ) → L .pattern p ≡ x → Part q x → p < suc n → q < n
-      part q e o l = let f = R .falls p q (subst (Part q) (sym e) o) in omega arith
+      part : {x : Pattern} (q : ℕ) → L .pattern p ≡ x → Subpattern q x → p < suc n → q < n
+      part q e o l = let f = R .falls p q (subst (Subpattern q) (sym e) o) in omega arith
 
       kind-decided : p < suc n → (x : Pattern) → L .pattern p ≡ x → (kindTest L N equal pair rec n it A K i j x ≡ true) ↔ SpanOf it A K p i j
       kind-decided l pattern.empty e = Iff·trans (items-decided (noItem items) (λ m. m ≡ []) (no-item items)) (Iff·symm (span-empty L Not A it K p i j e))
@@ -224,11 +224,11 @@ module _ (L : Lookups) (R : Restricted L) (N : ℕ) (equal : ℕ → List ℕ �
           Iff·trans (items-decided (oneItem (onString (λ s. true)) items) (One (λ s. Unit {0})) (one-string (λ s. true) (λ s. Unit {0}) (λ s. (λ h. tt, λ h. refl)) items)) (Iff·symm (items-only L Not A it K p i j (pattern.dataAll t) (One (λ s. Unit {0})) Iff·rfl e))
       kind-decided l (pattern.dataExcept t q) e =
           Iff·trans
-          (items-decided (oneItem (onString (λ s. not (stringTest rec none q s))) items) (One (λ s. Not s q)) (one-string (λ s. not (stringTest rec none q s)) (λ s. Not s q) excepted items))
+          (items-decided (oneItem (onString (λ s. not (stringTest rec noAttributes q s))) items) (One (λ s. Not s q)) (one-string (λ s. not (stringTest rec noAttributes q s)) (λ s. Not s q) excepted items))
           (Iff·symm (items-only L Not A it K p i j (pattern.dataExcept t q) (One (λ s. Not s q)) Iff·rfl e))
         where
-          excepted : (s : List ℕ) → (not (stringTest rec none q s) ≡ true) ↔ Not s q
-          excepted s = Iff·trans (not-decides (stringTest rec none q s) (string-decided none no-attributes no-twins q s (part q e of-except l))) (Iff·symm (not-match R p t q e s))
+          excepted : (s : List ℕ) → (not (stringTest rec noAttributes q s) ≡ true) ↔ Not s q
+          excepted s = Iff·trans (not-decides (stringTest rec noAttributes q s) (string-decided noAttributes no-attributes no-twins q s (part q e of-except l))) (Iff·symm (not-match R p t q e s))
       kind-decided l (pattern.value t k) e =
           Iff·trans
           (items-decided (oneItem (onString (λ s. equal t s (L .text k))) items) (One (λ s. L .Equal t s (L .text k))) (one-string (λ s. equal t s (L .text k)) (λ s. L .Equal t s (L .text k)) (λ s. equals t s (L .text k)) items))

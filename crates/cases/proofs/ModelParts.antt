@@ -7,7 +7,7 @@ use mathlib.Core.Logic.{_⊎_, inl, inr, _↔_}
 use native.Mathlib.Omega.{arith}
 use lib.Dec.{eqb}
 use borrow.Author.Tests.{eqb-true, eq-eqb, not-true}
-use Rattle.rules.specs.Items.{Item, element, string, Attributes, none, only}
+use Rattle.rules.specs.Items.{Item, element, string, Attributes, noAttributes, only}
 use Rattle.tables.proofs.Booleans.{or-either, or-left, or-right, and-left, and-right, both-and, is-false}
 use Rattle.rules.proofs.Booleans.{no-member, sole-member}
 use Rattle.rules.proofs.Inversion.{One}
@@ -77,13 +77,13 @@ abbrev pub Bound : ℕ → Attributes → Type 0
 Bound N A = (x : ℕ) → A x ≡ true → x < N
 
 module _ (N : ℕ) (A : Attributes) (bound : Bound N A) where
-  pub free-set : someBelow A N ≡ false → A ≡ none
+  pub free-set : someBelow A N ≡ false → A ≡ noAttributes
   free-set e = no-member A (λ x h. true≢false (sym (some-below A N x (bound x h) h) ∙ e))
 
-  set-free : A ≡ none → someBelow A N ≡ false
+  set-free : A ≡ noAttributes → someBelow A N ≡ false
   set-free e = is-false (someBelow A N) (λ h. let k = below-some A N h in true≢false (sym (k .2) ∙ ap (λ (B : Attributes). B (k .0)) e))
 
-  pub free-decided : (not (someBelow A N) ≡ true) ↔ (A ≡ none)
+  pub free-decided : (not (someBelow A N) ≡ true) ↔ (A ≡ noAttributes)
   free-decided = (λ e. free-set (not-true (someBelow A N) e), λ e. rw (set-free e))
 
   pub each-set : (t : ℕ → Bool) → (everyBelow (λ y. elim (A y) [ true ↦ t y | false ↦ true ]) N ≡ true) ↔ ((y : ℕ) → A y ≡ true → t y ≡ true)

@@ -21,7 +21,7 @@ use Rattle.instance.specs.Nodes.{nodesOf}
 use Rattle.instance.specs.NodeRule.{NodesRight}
 use Rattle.instance.proofs.Elements.{attribute-later, attributes-differ}
 use Rattle.restrictions.specs.Schema.{SchemaPasses}
-use Rattle.rules.specs.Items.{Item, element, string, Attributes, none, Lookups}
+use Rattle.rules.specs.Items.{Item, element, string, Attributes, noAttributes, Lookups}
 use Rattle.rules.specs.Rules.{OkAsChildren, Match, WeakMatch, NotMatchBy}
 use Rattle.rules.specs.Job.{datatypeEqual, lookups, startRow, Valid}
 use Rattle.tables.proofs.Booleans.{and-left, and-right, both-and}
@@ -90,7 +90,7 @@ module _ (J : Tables) where
       elim (L .isDefinition d && L .inClass (L .nameClass d) e) [ true ↦ weakTest L (matchTest (pairTest n)) (L .attributes e) (L .content d) (L .children e) | false ↦ false ]
 
   unfoldable pub validTest : Bool
-  validTest = matchTest (pairTest (nodesOf t)) (λ k. element 0) none all (schema.aOf s (startRow J)) 0 1
+  validTest = matchTest (pairTest (nodesOf t)) (λ k. element 0) noAttributes all (schema.aOf s (startRow J)) 0 1
 
   module _ (strings : StringsRight (J .strings)) (pass : SchemaPasses (schemaStrings (J .strings)) s) (nodes : NodesRight (instanceStrings (J .strings)) t) where
     R : Restricted L
@@ -186,8 +186,8 @@ module _ (J : Tables) where
     unfolding validTest run
     valid-decided h =
         let c = child-less (start-child pass) in
-        Iff·trans (decided (pairTest (nodesOf t)) (λ k. element 0) none all (schema.aOf s (startRow J)) 0 1 (omega arith) root-fits)
-        (span-whole L Not none (λ k. element 0) all (schema.aOf s (startRow J)) 1 refl)
+        Iff·trans (decided (pairTest (nodesOf t)) (λ k. element 0) noAttributes all (schema.aOf s (startRow J)) 0 1 (omega arith) root-fits)
+        (span-whole L Not noAttributes (λ k. element 0) all (schema.aOf s (startRow J)) 1 refl)
       where
         clash : {x : List ℕ} → element 0 ≡ string x → ⊥
         clash x = let z : _≡_ {A = ℕ} 0 1 = cc in omega arith
@@ -195,7 +195,7 @@ module _ (J : Tables) where
         same : {x : ℕ} → element 0 ≡ element x → x ≡ 0
         same e = cc
 
-        root-fits : FitsHere (pairTest (nodesOf t)) (λ k. element 0) none all
+        root-fits : FitsHere (pairTest (nodesOf t)) (λ k. element 0) noAttributes all
         root-fits = record {
           bound = λ x i. absurd (false≢true i);
           distinct = λ x y i. absurd (false≢true i);

@@ -10,11 +10,11 @@ use borrow.Author.Tests.{eqb-true, eq-eqb, lt-ltb, ltb-true}
 use Rattle.schema.specs.Kinds as kind
 use Rattle.schema.specs.Rows.{rowsOf, kindOf, shapeOf}
 use Rattle.schema.specs.Relations.{Child, by-a, by-b, Below, child, deeper}
-use Rattle.schema.specs.RowRule.{maxRows, usesBelow, rowRight, SizeFault, no-row, too-many-rows, broken-length, bad-size, bad-row, RowsRight}
+use Rattle.schema.specs.RowRule.{maxRows, usesBefore, rowRight, SizeFault, no-row, too-many-rows, broken-length, bad-size, bad-row, RowsRight}
 use Rattle.schema.proofs.RowLaws.{in-table, right-size}
 use Rattle.places.specs.Places.{holdsWhole, emptyFits, PlaceFault, notAllowed-inside, empty-inside}
 use Rattle.places.specs.Names.{NameFault, anyName-in-anyName, anyName-in-nsName, nsName-in-nsName}
-use Rattle.places.specs.Paths.{isPair, notInAttribute, notInExcept, notInStart, PathFault, in-attribute, in-repeated-pair, in-except, in-start}
+use Rattle.places.specs.Paths.{sharingKind, notInAttribute, notInExcept, notInStart, PathFault, in-attribute, in-repeated-sharing, in-except, in-start}
 use Rattle.tables.proofs.Booleans.{or-left, or-right, and-left, and-right, both-and}
 use Rattle.cases.proofs.Tests.{everyBelow, every-below, no-of}
 use Rattle.cases.proofs.DescentTests.{childTest, child-test, belowTest, below-test}
@@ -25,7 +25,7 @@ module _ (strings : ℕ) (s : List ℕ) where
   sizeTest = ltb 0 (rowsOf s) && (not (ltb maxRows (rowsOf s)) && eqb (length s % 3) 0)
 
   abbrev rowTest : ℕ → Bool
-  rowTest r = rowRight strings s r (usesBelow s r (rowsOf s))
+  rowTest r = rowRight strings s r (usesBefore s r (rowsOf s))
 
   unfoldable pub rowsTest : Bool
   rowsTest = sizeTest && everyBelow rowTest (rowsOf s)
@@ -67,25 +67,25 @@ module _ (s : List ℕ) where
 
   -- code 5
   abbrev pairedAttribute : ℕ → Bool
-  pairedAttribute p = isPair (kindOf s p) && belowTest s (λ r. eqb (kindOf s r) kind.attribute) (rowsOf s) p
+  pairedAttribute p = sharingKind (kindOf s p) && belowTest s (λ r. eqb (kindOf s r) kind.attribute) (rowsOf s) p
 
-  abbrev repeatedPair : ℕ → ℕ → Bool
-  repeatedPair q p = eqb (kindOf s q) kind.oneOrMore && pairedAttribute p
+  abbrev repeatedSharing : ℕ → ℕ → Bool
+  repeatedSharing q p = eqb (kindOf s q) kind.oneOrMore && pairedAttribute p
 
   abbrev prohibited : ℕ → ℕ → Bool
   prohibited p r = prohibitedPath (kindOf s p) (kindOf s r)
 
   unfoldable pub pathsTest : Bool
-  pathsTest = noneBelow s prohibited && noneBelow s repeatedPair
+  pathsTest = noneBelow s prohibited && noneBelow s repeatedSharing
 
-  no-child : {p r : ℕ} → Child s p r → ¬ (kindOf s p ≡ 0)
+  no-child : {p r : ℕ} → Child s r p → ¬ (kindOf s p ≡ 0)
   unfolding shapeOf
   no-child (by-a n e) z = false≢true (rw z at n)
   no-child (by-b n e) z = false≢true (rw z at n)
 
   module _ {strings : ℕ} (right : RowsRight strings s) where
     -- a row with a child is in the table
-    parent-row : {p r : ℕ} → Child s p r → p < rowsOf s
+    parent-row : {p r : ℕ} → Child s r p → p < rowsOf s
     parent-row c = in-table (right-size right) (no-child c)
 
     pub above-row : {r p : ℕ} → Below s r p → p < rowsOf s
@@ -102,7 +102,7 @@ module _ (s : List ℕ) where
     unfolding placesTest
     places-right pass r f = go f
       where
-        none : (p : ℕ) → Child s p r → ¬ (misplaced p r ≡ true)
+        none : (p : ℕ) → Child s r p → ¬ (misplaced p r ≡ true)
         none p c h = no-of (every-below (λ p. not (childTest s (misplaced p) p)) (rowsOf s) pass p (parent-row c)) (child-test s (misplaced p) c h)
 
         go : ¬ PlaceFault s r
@@ -126,13 +126,13 @@ module _ (s : List ℕ) where
     paths-right pass r f = go f
       where
         none : (p : ℕ) → Below s r p → ¬ (prohibited p r ≡ true)
-        none p b = none-below prohibited (and-left (noneBelow s prohibited) (noneBelow s repeatedPair) pass) b
+        none p b = none-below prohibited (and-left (noneBelow s prohibited) (noneBelow s repeatedSharing) pass) b
 
         go : ¬ PathFault s r
         go (in-attribute p h k b) = none p b (rw (k, h))
         go (in-except p h k b) = none p b (rw (k, h))
         go (in-start p h k b) = none p b (rw (k, h))
-        go (in-repeated-pair p q k h b i c) =
+        go (in-repeated-sharing p q k h b i c) =
             let l = above-row b in
-            none-below repeatedPair (and-right (noneBelow s prohibited) (noneBelow s repeatedPair) pass) c
+            none-below repeatedSharing (and-right (noneBelow s prohibited) (noneBelow s repeatedSharing) pass) c
             (both-and (eq-eqb _ _ i) (both-and h (below-test s (λ r. eqb (kindOf s r) kind.attribute) (rowsOf s) (omega arith) b (eq-eqb _ _ k))))

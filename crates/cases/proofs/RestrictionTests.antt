@@ -13,7 +13,7 @@ use Rattle.schema.specs.Relations.{Below, connective, Occurs, itself, within}
 use Rattle.schema.specs.RowRule.{RowsRight}
 use Rattle.schema.proofs.RowLaws.{in-table, right-size}
 use Rattle.classes.specs.Least.{Common}
-use Rattle.places.specs.Paths.{isPair}
+use Rattle.places.specs.Paths.{sharingKind}
 use Rattle.occurrences.specs.Attributes.{isWildcard, Infinite, is-wildcard, has-wildcard, AttributeFault, duplicate, not-repeated}
 use Rattle.occurrences.specs.Interleaves.{classReferred, InterleaveFault, same-element, text-twice}
 use Rattle.tables.proofs.Booleans.{or-either, or-left, or-right, and-left, and-right, both-and}
@@ -58,7 +58,7 @@ module _ (strings : ℕ) (s : List ℕ) where
 
   -- code 7
   abbrev pub duplicateTest : ℕ → Bool
-  duplicateTest r = elim (isPair (kindOf s r)) [ true ↦ sharedTest kind.attribute (childA s) r | false ↦ false ]
+  duplicateTest r = elim (sharingKind (kindOf s r)) [ true ↦ sharedTest kind.attribute (childA s) r | false ↦ false ]
 
   abbrev wildcard : ℕ → Bool
   wildcard c = isWildcard (kindOf s c)
@@ -77,7 +77,7 @@ module _ (strings : ℕ) (s : List ℕ) where
 
   pub attribute-fault : (r : ℕ) → duplicateTest r ≡ true → AttributeFault s r
   attribute-fault r e =
-      let w = unguarded (isPair (kindOf s r)) (sharedTest kind.attribute (childA s) r) e in
+      let w = unguarded (sharingKind (kindOf s r)) (sharedTest kind.attribute (childA s) r) e in
       let d = test-shared kind.attribute (childA s) r (w .1) in
       duplicate (d .x) (d .y) (d .u) (d .l) (w .0) (d .first) (d .first-kind) (d .second) (d .second-kind) (d .common)
 
@@ -133,7 +133,7 @@ module _ (strings : ℕ) (s : List ℕ) where
       where
         go : AttributeFault s r → (not (eqb (kindOf s r) kind.attribute) ≡ true) ⊎ ((not (infiniteTest (childA s r)) || someBelow (repeats r) (rowsOf s)) ≡ true) → ⊥
         go (duplicate x y u l e o k p j m) h =
-            no-of (and-left (not (duplicateTest r)) (finiteOrRepeated r) pass) (guarded (isPair (kindOf s r)) e (shared-test kind.attribute (childA s) r x y u l (λ z. omega arith) o k p j m))
+            no-of (and-left (not (duplicateTest r)) (finiteOrRepeated r) pass) (guarded (sharingKind (kindOf s r)) e (shared-test kind.attribute (childA s) r x y u l (λ z. omega arith) o k p j m))
         go (not-repeated k i f) (inl h) = no-of h (eq-eqb _ _ k)
         go (not-repeated k i f) (inr h) =
             elim (or-either (not (infiniteTest (childA s r))) (someBelow (repeats r) (rowsOf s)) h) [

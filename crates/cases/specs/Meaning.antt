@@ -6,7 +6,7 @@ use Rattle.tables.specs.Tables.{stringTable, Tables, tablesOf}
 use Rattle.strings.specs.Strings.{instanceStrings}
 use Rattle.tables.specs.Refusals.{Passes}
 use Rattle.tables.specs.declared.Verdict.the-variants.{Passed, Refused}
-use Rattle.classes.specs.Least.{Least}
+use Rattle.classes.specs.Least.{LeastCommon}
 use Rattle.classes.specs.declared.Found.the-variants.{Name}
 use Rattle.instance.specs.NodeRule.{NodesRight}
 use Rattle.instance.specs.Width.{WidthFault}
@@ -48,15 +48,15 @@ pub record Matching (r : Row) (pairs : List (ℕ × ℕ)) (valid : Bool) : Type 
   pub listed : Lists (Pair (tablesAt r)) pairs
   pub validity : IsValid valid (tablesAt r)
 
-abbrev pub Says : Row → Expected → Type 0
-Says r (matches pairs valid) = Matching r pairs valid
-Says r (least c d u l) = NotRefused r × Least (r .schema) c d (Name u l)
-Says r (refused code place) = SchemaRefusal (tablesAt r .strings) (r .schema) Passes (Refused code place)
+abbrev pub CaseSays : Row → Expected → Type 0
+CaseSays r (matches pairs valid) = Matching r pairs valid
+CaseSays r (least c d u l) = NotRefused r × LeastCommon (r .schema) c d (Name u l)
+CaseSays r (refused code place) = SchemaRefusal (tablesAt r .strings) (r .schema) Passes (Refused code place)
 
-abbrev pub Holds : Row → Type 0
-Holds r = Says r (r .expected)
+abbrev pub CaseHolds : Row → Type 0
+CaseHolds r = CaseSays r (r .expected)
 
 -- every row of a table holds
 pub data AllHold : List Row → Type 0 where
   none-left : AllHold []
-  holds : {r : Row} {rows : List Row} → Holds r → AllHold rows → AllHold (r ∷ rows)
+  holds : {r : Row} {rows : List Row} → CaseHolds r → AllHold rows → AllHold (r ∷ rows)

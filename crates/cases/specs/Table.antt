@@ -2,7 +2,7 @@
 use Prim.Native.Nat.{ℕ}
 use mathlib.Core.Bool.{true, false}
 use mathlib.Core.List.{List, [], _∷_}
-use Rattle.schema.specs.Kinds.{none}
+use Rattle.schema.specs.Kinds.{noRow}
 use Rattle.cases.specs.Meaning.{matches, least, refused, Row}
 
 -- the words of schema rows (kind, a, b) and of instance rows (kind, parent, a, b, c), in order
@@ -17,7 +17,7 @@ nodeWords (r ∷ l) = r .0 ∷ r .1 ∷ r .2 ∷ r .3 ∷ r .4 ∷ nodeWords l
 -- the schema of P1 and P2
 abbrev pub articles : List ℕ
 articles = schemaWords (
-    (18, 0, 1) ∷ (18, 0, 2) ∷ (4, 1, none) ∷ (7, 1, 2) ∷ (8, 9, 0)
+    (18, 0, 1) ∷ (18, 0, 2) ∷ (4, 1, noRow) ∷ (7, 1, 2) ∷ (8, 9, 0)
     ∷ (11, 3, 4) ∷ (20, 0, 5) ∷ (18, 0, 3) ∷ (3, 0, 0) ∷ (20, 7, 8)
     ∷ (18, 0, 3) ∷ (1, 0, 0) ∷ (20, 10, 11) ∷ (8, 6, 0) ∷ (21, 13, 0) ∷ [])
 
@@ -27,7 +27,7 @@ p1 = record {
   bytes = 0x61 ∷ 0x72 ∷ 0x74 ∷ 0x69 ∷ 0x64 ∷ 0x74 ∷ 0x69 ∷ 0x78 ∷ 0x31 ∷ 0x20 ∷ [];
   ends = 0 ∷ 3 ∷ 5 ∷ 7 ∷ 9 ∷ 10 ∷ [];
   schema = articles;
-  instance = nodeWords ((1, none, 0, 1, 0) ∷ (2, 0, 0, 2, 4) ∷ (3, 0, 5, 0, 0) ∷ (1, 0, 0, 3, 0) ∷ (3, 3, 5, 0, 0) ∷ []);
+  instance = nodeWords ((1, noRow, 0, 1, 0) ∷ (2, 0, 0, 2, 4) ∷ (3, 0, 5, 0, 0) ∷ (1, 0, 0, 3, 0) ∷ (3, 3, 5, 0, 0) ∷ []);
   expected = matches ((0, 6) ∷ (3, 9) ∷ (3, 12) ∷ []) true;
 }
 
@@ -37,7 +37,7 @@ p2 = record {
   bytes = 0x61 ∷ 0x72 ∷ 0x74 ∷ 0x69 ∷ 0x64 ∷ 0x74 ∷ 0x69 ∷ 0x78 ∷ 0x31 ∷ 0x20 ∷ [];
   ends = 0 ∷ 3 ∷ 5 ∷ 7 ∷ 9 ∷ 10 ∷ [];
   schema = articles;
-  instance = nodeWords ((1, none, 0, 1, 0) ∷ (2, 0, 0, 2, 4) ∷ (3, 0, 5, 0, 0) ∷ (1, 0, 0, 3, 0) ∷ (3, 3, 4, 0, 0) ∷ []);
+  instance = nodeWords ((1, noRow, 0, 1, 0) ∷ (2, 0, 0, 2, 4) ∷ (3, 0, 5, 0, 0) ∷ (1, 0, 0, 3, 0) ∷ (3, 3, 4, 0, 0) ∷ []);
   expected = matches ((0, 6) ∷ (3, 9) ∷ []) true;
 }
 
@@ -53,7 +53,7 @@ p3-token = record {
   bytes = 0x78 ∷ 0x69 ∷ 0x64 ∷ 0x61 ∷ 0x20 ∷ 0x62 ∷ 0x20 ∷ 0x20 ∷ 0x61 ∷ 0x20 ∷ 0x20 ∷ 0x20 ∷ 0x62 ∷ 0x20 ∷ [];
   ends = 0 ∷ 1 ∷ 3 ∷ 6 ∷ 14 ∷ [];
   schema = attributeValue 1;
-  instance = nodeWords ((1, none, 0, 1, 0) ∷ (2, 0, 0, 2, 4) ∷ []);
+  instance = nodeWords ((1, noRow, 0, 1, 0) ∷ (2, 0, 0, 2, 4) ∷ []);
   expected = matches ((0, 4) ∷ []) true;
 }
 
@@ -62,7 +62,7 @@ p3-string = record {
   bytes = 0x78 ∷ 0x69 ∷ 0x64 ∷ 0x61 ∷ 0x20 ∷ 0x62 ∷ 0x20 ∷ 0x20 ∷ 0x61 ∷ 0x20 ∷ 0x20 ∷ 0x20 ∷ 0x62 ∷ 0x20 ∷ [];
   ends = 0 ∷ 1 ∷ 3 ∷ 6 ∷ 14 ∷ [];
   schema = attributeValue 0;
-  instance = nodeWords ((1, none, 0, 1, 0) ∷ (2, 0, 0, 2, 4) ∷ []);
+  instance = nodeWords ((1, noRow, 0, 1, 0) ∷ (2, 0, 0, 2, 4) ∷ []);
   expected = matches [] false;
 }
 
@@ -76,7 +76,7 @@ p4-empty = record {
   bytes = 0x65 ∷ 0x78 ∷ [];
   ends = 0 ∷ 1 ∷ 2 ∷ [];
   schema = contentValue 0 0;
-  instance = nodeWords ((1, none, 0, 1, 0) ∷ []);
+  instance = nodeWords ((1, noRow, 0, 1, 0) ∷ []);
   expected = matches ((0, 2) ∷ []) true;
 }
 
@@ -85,7 +85,7 @@ p4-x = record {
   bytes = 0x65 ∷ 0x78 ∷ [];
   ends = 0 ∷ 1 ∷ 2 ∷ [];
   schema = contentValue 0 2;
-  instance = nodeWords ((1, none, 0, 1, 0) ∷ []);
+  instance = nodeWords ((1, noRow, 0, 1, 0) ∷ []);
   expected = matches [] false;
 }
 
@@ -95,7 +95,7 @@ p5-token = record {
   bytes = 0x65 ∷ 0x20 ∷ [];
   ends = 0 ∷ 1 ∷ 2 ∷ [];
   schema = contentValue 1 0;
-  instance = nodeWords ((1, none, 0, 1, 0) ∷ (3, 0, 2, 0, 0) ∷ []);
+  instance = nodeWords ((1, noRow, 0, 1, 0) ∷ (3, 0, 2, 0, 0) ∷ []);
   expected = matches ((0, 2) ∷ []) true;
 }
 
@@ -104,7 +104,7 @@ p5-string = record {
   bytes = 0x65 ∷ 0x20 ∷ [];
   ends = 0 ∷ 1 ∷ 2 ∷ [];
   schema = contentValue 0 0;
-  instance = nodeWords ((1, none, 0, 1, 0) ∷ (3, 0, 2, 0, 0) ∷ []);
+  instance = nodeWords ((1, noRow, 0, 1, 0) ∷ (3, 0, 2, 0, 0) ∷ []);
   expected = matches [] false;
 }
 
@@ -121,7 +121,7 @@ p6-ab = record {
   bytes = 0x72 ∷ 0x61 ∷ 0x62 ∷ [];
   ends = 0 ∷ 1 ∷ 2 ∷ 3 ∷ [];
   schema = interleaved;
-  instance = nodeWords ((1, none, 0, 1, 0) ∷ (1, 0, 0, 2, 0) ∷ (1, 0, 0, 3, 0) ∷ []);
+  instance = nodeWords ((1, noRow, 0, 1, 0) ∷ (1, 0, 0, 2, 0) ∷ (1, 0, 0, 3, 0) ∷ []);
   expected = matches ((0, 10) ∷ (1, 2) ∷ (2, 5) ∷ []) true;
 }
 
@@ -130,7 +130,7 @@ p6-ba = record {
   bytes = 0x72 ∷ 0x61 ∷ 0x62 ∷ [];
   ends = 0 ∷ 1 ∷ 2 ∷ 3 ∷ [];
   schema = interleaved;
-  instance = nodeWords ((1, none, 0, 1, 0) ∷ (1, 0, 0, 3, 0) ∷ (1, 0, 0, 2, 0) ∷ []);
+  instance = nodeWords ((1, noRow, 0, 1, 0) ∷ (1, 0, 0, 3, 0) ∷ (1, 0, 0, 2, 0) ∷ []);
   expected = matches ((0, 10) ∷ (1, 5) ∷ (2, 2) ∷ []) true;
 }
 
@@ -139,14 +139,14 @@ p6-aab = record {
   bytes = 0x72 ∷ 0x61 ∷ 0x62 ∷ [];
   ends = 0 ∷ 1 ∷ 2 ∷ 3 ∷ [];
   schema = interleaved;
-  instance = nodeWords ((1, none, 0, 1, 0) ∷ (1, 0, 0, 2, 0) ∷ (1, 0, 0, 2, 0) ∷ (1, 0, 0, 3, 0) ∷ []);
+  instance = nodeWords ((1, noRow, 0, 1, 0) ∷ (1, 0, 0, 2, 0) ∷ (1, 0, 0, 2, 0) ∷ (1, 0, 0, 3, 0) ∷ []);
   expected = matches ((1, 2) ∷ (2, 2) ∷ (3, 5) ∷ []) false;
 }
 
 -- P7: an element x, whose pattern is oneOrMore of attribute anyName text
 abbrev pub repeatedAttribute : List ℕ
 repeatedAttribute = schemaWords (
-    (16, none, 0) ∷ (3, 0, 0) ∷ (7, 0, 1) ∷ (9, 2, 0) ∷ (18, 0, 1)
+    (16, noRow, 0) ∷ (3, 0, 0) ∷ (7, 0, 1) ∷ (9, 2, 0) ∷ (18, 0, 1)
     ∷ (20, 4, 3) ∷ (8, 5, 0) ∷ (21, 6, 0) ∷ [])
 
 -- no attribute, one, two
@@ -155,7 +155,7 @@ p7-none = record {
   bytes = 0x78 ∷ 0x6B ∷ 0x6C ∷ [];
   ends = 0 ∷ 1 ∷ 2 ∷ 3 ∷ [];
   schema = repeatedAttribute;
-  instance = nodeWords ((1, none, 0, 1, 0) ∷ []);
+  instance = nodeWords ((1, noRow, 0, 1, 0) ∷ []);
   expected = matches [] false;
 }
 
@@ -164,7 +164,7 @@ p7-one = record {
   bytes = 0x78 ∷ 0x6B ∷ 0x6C ∷ [];
   ends = 0 ∷ 1 ∷ 2 ∷ 3 ∷ [];
   schema = repeatedAttribute;
-  instance = nodeWords ((1, none, 0, 1, 0) ∷ (2, 0, 0, 2, 0) ∷ []);
+  instance = nodeWords ((1, noRow, 0, 1, 0) ∷ (2, 0, 0, 2, 0) ∷ []);
   expected = matches ((0, 5) ∷ []) true;
 }
 
@@ -173,7 +173,7 @@ p7-two = record {
   bytes = 0x78 ∷ 0x6B ∷ 0x6C ∷ [];
   ends = 0 ∷ 1 ∷ 2 ∷ 3 ∷ [];
   schema = repeatedAttribute;
-  instance = nodeWords ((1, none, 0, 1, 0) ∷ (2, 0, 0, 2, 0) ∷ (2, 0, 0, 3, 0) ∷ []);
+  instance = nodeWords ((1, noRow, 0, 1, 0) ∷ (2, 0, 0, 2, 0) ∷ (2, 0, 0, 3, 0) ∷ []);
   expected = matches ((0, 5) ∷ []) true;
 }
 
@@ -189,7 +189,7 @@ p8-no = record {
   bytes = 0x78 ∷ 0x6E ∷ 0x6F ∷ 0x20 ∷ 0x6E ∷ 0x6F ∷ 0x20 ∷ 0x79 ∷ 0x65 ∷ 0x73 ∷ [];
   ends = 0 ∷ 1 ∷ 3 ∷ 7 ∷ 10 ∷ [];
   schema = dataExcept;
-  instance = nodeWords ((1, none, 0, 1, 0) ∷ (3, 0, 3, 0, 0) ∷ []);
+  instance = nodeWords ((1, noRow, 0, 1, 0) ∷ (3, 0, 3, 0, 0) ∷ []);
   expected = matches [] false;
 }
 
@@ -198,16 +198,16 @@ p8-yes = record {
   bytes = 0x78 ∷ 0x6E ∷ 0x6F ∷ 0x20 ∷ 0x6E ∷ 0x6F ∷ 0x20 ∷ 0x79 ∷ 0x65 ∷ 0x73 ∷ [];
   ends = 0 ∷ 1 ∷ 3 ∷ 7 ∷ 10 ∷ [];
   schema = dataExcept;
-  instance = nodeWords ((1, none, 0, 1, 0) ∷ (3, 0, 4, 0, 0) ∷ []);
+  instance = nodeWords ((1, noRow, 0, 1, 0) ∷ (3, 0, 4, 0, 0) ∷ []);
   expected = matches ((0, 3) ∷ []) true;
 }
 
 -- P9: name classes at row 1, anyName except name 0,1; at row 4, nsName 0; at rows 7 and 10, anyName
 abbrev pub classes : List ℕ
 classes = schemaWords (
-    (18, 0, 1) ∷ (16, 0, 0) ∷ (1, 0, 0) ∷ (20, 1, 2) ∷ (17, 0, none)
-    ∷ (1, 0, 0) ∷ (20, 4, 5) ∷ (16, none, 0) ∷ (1, 0, 0) ∷ (20, 7, 8)
-    ∷ (16, none, 0) ∷ (1, 0, 0) ∷ (20, 10, 11) ∷ (2, 0, 0) ∷ (21, 13, 0) ∷ [])
+    (18, 0, 1) ∷ (16, 0, 0) ∷ (1, 0, 0) ∷ (20, 1, 2) ∷ (17, 0, noRow)
+    ∷ (1, 0, 0) ∷ (20, 4, 5) ∷ (16, noRow, 0) ∷ (1, 0, 0) ∷ (20, 7, 8)
+    ∷ (16, noRow, 0) ∷ (1, 0, 0) ∷ (20, 10, 11) ∷ (2, 0, 0) ∷ (21, 13, 0) ∷ [])
 
 abbrev pub p9-except : Row
 p9-except = record {
@@ -261,7 +261,7 @@ p11 = record {
 -- P12: a group of data and ref
 abbrev pub dataAndRef : List ℕ
 dataAndRef = schemaWords (
-    (4, 1, none) ∷ (8, 4, 0) ∷ (11, 0, 1) ∷ (18, 0, 1) ∷ (20, 3, 2)
+    (4, 1, noRow) ∷ (8, 4, 0) ∷ (11, 0, 1) ∷ (18, 0, 1) ∷ (20, 3, 2)
     ∷ (8, 4, 0) ∷ (21, 5, 0) ∷ [])
 
 abbrev pub p12 : Row

@@ -14,18 +14,18 @@ use Rattle.schema.specs.Relations.{Child}
 use Rattle.schema.specs.RowRule.{maxRows}
 use Rattle.schema.specs.Rows.{rowsOf, kindOf}
 use Rattle.schema.specs.Marks.{Marked}
-use Rattle.classes.specs.Least.{Common, Before, Least}
+use Rattle.classes.specs.Least.{Common, NotAfter, LeastCommon}
 use Rattle.classes.specs.Membership.{holds, inClass}
 use Rattle.classes.specs.Search.{markedRows, Stands, Candidates, Covers, Sound, TriedAll}
 use Rattle.classes.specs.declared.Found.{Found}
 use Rattle.classes.specs.declared.Found.the-variants.{Name, Nothing}
-use Rattle.classes.specs.declared.Part.the-variants.{Namespace, Local}
+use Rattle.classes.specs.declared.NamePart.the-variants.{Namespace, Local}
 use Rattle.classes.proofs.Trying.{covers-later}
 use Rattle.classes.proofs.Holds.{holds-other}
 use Rattle.classes.proofs.SmallModel.{same-in-class}
 
 -- a common name that is not after any other is the least
-pub least-of-all : (s : List ℕ) (c d : ℕ) (r : Found) → Sound s c d r → ((v k : ℕ) → Common s c d v k → Covers r v k) → Least s c d r
+pub least-of-all : (s : List ℕ) (c d : ℕ) (r : Found) → Sound s c d r → ((v k : ℕ) → Common s c d v k → Covers r v k) → LeastCommon s c d r
 least-of-all s c d (Name u l) h t = (h, t)
 least-of-all s c d Nothing h t = t
 
@@ -43,7 +43,7 @@ in-table s u l c h e = go (decLt c markedRows)
         absurd (false≢true (sym (holds-other s u l c (record { kind = refl; first = refl; second = refl }) (λ f. omega arith) (λ f. omega arith) (λ f. omega arith) (λ f. omega arith)) ∙ e))
 
 -- for each common name one of the grid is common and not after it
-module _ (s m us ls : List ℕ) (c d i j : ℕ) (rows : rowsOf s ≤ maxRows) (size : length m ≡ markedRows) (closed : (p r : ℕ) → Marked m p → Child s p r → Marked m r) (first : c < markedRows → Marked m c) (second : d < markedRows → Marked m d) (spaces : Candidates s m Namespace us i) (locals : Candidates s m Local ls j) where
+module _ (s m us ls : List ℕ) (c d i j : ℕ) (rows : rowsOf s ≤ maxRows) (size : length m ≡ markedRows) (closed : (p r : ℕ) → Marked m p → Child s r p → Marked m r) (first : c < markedRows → Marked m c) (second : d < markedRows → Marked m d) (spaces : Candidates s m Namespace us i) (locals : Candidates s m Local ls j) where
   on-grid : {v k : ℕ} (x : Stands s m Namespace us i v) (y : Stands s m Local ls j k) → 0 < k → Common s c d v k → Common s c d (x .by) (y .by)
   on-grid {v} {k} x y l h = record { first = member c first (h .first); second = member d second (h .second) }
     where
@@ -52,14 +52,14 @@ module _ (s m us ls : List ℕ) (c d i j : ℕ) (rows : rowsOf s ≤ maxRows) (s
           let g = and-both (ltb 0 k) (holds s v k e) h in
           sym (same-in-class s m v k (x .by) (y .by) closed (omega arith) (x .alike) (y .alike) e (marked (in-table s v k e rows (g .1))) l (y .low)) ∙ h
 
-  not-after : {v k : ℕ} (x : Stands s m Namespace us i v) (y : Stands s m Local ls j k) → Before (x .by) (y .by) v k
+  not-after : {v k : ℕ} (x : Stands s m Namespace us i v) (y : Stands s m Local ls j k) → NotAfter (x .by) (y .by) v k
   not-after {v} {k} x y = go (decLt (x .by) v)
     where
-      go : Dec (x .by < v) → Before (x .by) (y .by) v k
+      go : Dec (x .by < v) → NotAfter (x .by) (y .by) v k
       go (yes l) = inl l
       go (no l) = inr (omega (arith, x .most), y .most)
 
-  pub least-on-grid : {r : Found} → TriedAll s c d us i ls j r → Least s c d r
+  pub least-on-grid : {r : Found} → TriedAll s c d us i ls j r → LeastCommon s c d r
   least-on-grid {r} t = least-of-all s c d r (t .sound) covered
     where
       covered : (v k : ℕ) → Common s c d v k → Covers r v k

@@ -25,21 +25,21 @@ pub record Read (s : List ℕ) (row k a b : ℕ) : Type 0 where
 module _ (s : List ℕ) (u l row : ℕ) where
   module _ {k a b : ℕ} (read : Read s row k a b) where
     -- the number of no row is no smaller row: it holds nothing, so that an except of it takes nothing away
-    module _ (low : row ≤ kind.none) where
+    module _ (low : row ≤ kind.noRow) where
       pub holds-anyName : k ≡ kind.anyName → holds s u l row ≡ not (upto (step s u l) row a)
       unfolding holds classBy
-      holds-anyName e = rw (sym (read .kind) ∙ e, ← read .first) (go (eqb a kind.none) refl)
+      holds-anyName e = rw (sym (read .kind) ∙ e, ← read .first) (go (eqb a kind.noRow) refl)
         where
-          go : (t : Bool) → eqb a kind.none ≡ t → memberBy (upto (step s u l) row) u l (cond t anyName (anyNameExcept a)) ≡ not (upto (step s u l) row a)
-          go true f = let g = eqb-true a kind.none f in rw (upto-above (step s u l) row a (omega arith))
+          go : (t : Bool) → eqb a kind.noRow ≡ t → memberBy (upto (step s u l) row) u l (cond t anyName (anyNameExcept a)) ≡ not (upto (step s u l) row a)
+          go true f = let g = eqb-true a kind.noRow f in rw (upto-above (step s u l) row a (omega arith))
           go false f = refl
 
       pub holds-nsName : k ≡ kind.nsName → holds s u l row ≡ (eqb u a && not (upto (step s u l) row b))
       unfolding holds classBy
-      holds-nsName e = rw (sym (read .kind) ∙ e, ← read .first, ← read .second) (go (eqb b kind.none) refl)
+      holds-nsName e = rw (sym (read .kind) ∙ e, ← read .first, ← read .second) (go (eqb b kind.noRow) refl)
         where
-          go : (t : Bool) → eqb b kind.none ≡ t → memberBy (upto (step s u l) row) u l (cond t (nsName a) (nsNameExcept a b)) ≡ (eqb u a && not (upto (step s u l) row b))
-          go true f = let g = eqb-true b kind.none f in rw (upto-above (step s u l) row b (omega arith)) (sym (and-true (eqb u a)))
+          go : (t : Bool) → eqb b kind.noRow ≡ t → memberBy (upto (step s u l) row) u l (cond t (nsName a) (nsNameExcept a b)) ≡ (eqb u a && not (upto (step s u l) row b))
+          go true f = let g = eqb-true b kind.noRow f in rw (upto-above (step s u l) row b (omega arith)) (sym (and-true (eqb u a)))
           go false f = refl
 
     pub holds-name : k ≡ kind.name → holds s u l row ≡ (eqb u a && eqb l b)

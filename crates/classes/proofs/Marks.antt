@@ -20,7 +20,7 @@ pub record Closing (s m₀ m : List ℕ) (q : ℕ) : Type 0 where
   pub size : length m ≡ markedRows
   pub low : q ≤ markedRows
   pub kept : (r : ℕ) → Marked m₀ r → Marked m r
-  pub closed : (p r : ℕ) → q ≤ p → Marked m p → Child s p r → Marked m r
+  pub closed : (p r : ℕ) → q ≤ p → Marked m p → Child s r p → Marked m r
 
 pub closing-start : (s m : List ℕ) → length m ≡ markedRows → Closing s m m markedRows
 closing-start s m e = record { size = e; low = omega arith; kept = λ r h. h; closed = λ p r l h k. absurd (omega (arith, marked-row m p h)) }
@@ -47,11 +47,11 @@ closing-step {s} {m₀} {m} {q} i more {on} is = record {
     smaller o l (picked-a k) = omega (arith, k .less)
     smaller o l (picked-b k) = omega (arith, k .less)
 
-    own : {r : ℕ} → Marked m p → Child s p r → PickedChild s p on on r
+    own : {r : ℕ} → Marked m p → Child s r p → PickedChild s p on on r
     own h k = let on-true : on ≡ true = is ∙ eq-eqb (getD m p 0) 1 h in
         ⊎-elim (λ e. picked-a (record { on = on-true; is = e; less = child-less k })) (λ e. picked-b (record { on = on-true; is = e; less = child-less k })) (child-is k)
 
-    child : (o r : ℕ) → p ≤ o → Marked m o → Child s o r → Dec (o ≡ p) → Marked (childrenMarked s p on on m) r
+    child : (o r : ℕ) → p ≤ o → Marked m o → Child s r o → Dec (o ≡ p) → Marked (childrenMarked s p on on m) r
     child o r l h k (yes e) = adds .added r (own (rw e at h) (rw e at k))
     child o r l h k (no n) = adds .kept r (i .closed o r (omega arith) h k)
 

@@ -18,8 +18,8 @@ use Rattle.schema.proofs.Marks.{marked-row}
 use Rattle.classes.specs.Membership.{holds, inClass}
 use Rattle.classes.specs.Search.{mentionOf}
 use Rattle.classes.specs.declared.Mention.the-variants.{Of}
-use Rattle.classes.specs.declared.Part.{Part}
-use Rattle.classes.specs.declared.Part.the-variants.{Namespace, Local}
+use Rattle.classes.specs.declared.NamePart.{NamePart}
+use Rattle.classes.specs.declared.NamePart.the-variants.{Namespace, Local}
 use Rattle.classes.proofs.Holds.{step, Read, holds-anyName, holds-nsName, holds-name, holds-nameChoice, holds-other}
 
 -- a row of another sort is no class, and holds nothing
@@ -33,15 +33,15 @@ no-class s u l r n =
     (class-kind (kindOf s r) kind.anyName refl n) (class-kind (kindOf s r) kind.nsName refl n) (class-kind (kindOf s r) kind.name refl n) (class-kind (kindOf s r) kind.nameChoice refl n)
 
 -- the two numbers are alike to every marked row that mentions such a part
-abbrev pub Alike : List ℕ → List ℕ → Part → ℕ → ℕ → Type 0
+abbrev pub Alike : List ℕ → List ℕ → NamePart → ℕ → ℕ → Type 0
 Alike s m part v w = (r x : ℕ) → Marked m r → mentionOf s r part ≡ Of x → eqb v x ≡ eqb w x
 
 -- a smaller row that is a class, in a field that can name one, is a child
 module _ (s : List ℕ) (c k : ℕ) where
-  child-a : ((x : ℕ) → names s c (shapeOf k .a) x ≡ (ltb x c && isClass (sortOf s x))) → kindOf s c ≡ k → aOf s c < c → isClass (sortOf s (aOf s c)) ≡ true → Child s c (aOf s c)
+  child-a : ((x : ℕ) → names s c (shapeOf k .a) x ≡ (ltb x c && isClass (sortOf s x))) → kindOf s c ≡ k → aOf s c < c → isClass (sortOf s (aOf s c)) ≡ true → Child s (aOf s c) c
   child-a f e l h = by-a (rw e (f (aOf s c) ∙ rw (lt-ltb (aOf s c) c l, h))) refl
 
-  child-b : ((x : ℕ) → names s c (shapeOf k .b) x ≡ (ltb x c && isClass (sortOf s x))) → kindOf s c ≡ k → bOf s c < c → isClass (sortOf s (bOf s c)) ≡ true → Child s c (bOf s c)
+  child-b : ((x : ℕ) → names s c (shapeOf k .b) x ≡ (ltb x c && isClass (sortOf s x))) → kindOf s c ≡ k → bOf s c < c → isClass (sortOf s (bOf s c)) ≡ true → Child s (bOf s c) c
   child-b f e l h = by-b (rw e (f (bOf s c) ∙ rw (lt-ltb (bOf s c) c l, h))) refl
 
 module _ (s m : List ℕ) (u l u′ l′ : ℕ) where
@@ -56,7 +56,7 @@ module _ (s m : List ℕ) (u l u′ l′ : ℕ) where
           upto-below (step s u l) c x h ∙ no-class s u l x e ∙ sym (no-class s u′ l′ x e) ∙ sym (upto-below (step s u′ l′) c x h)
       go (no h) t e = upto-above (step s u l) c x (omega arith) ∙ sym (upto-above (step s u′ l′) c x (omega arith))
 
-  module _ (closed : (p r : ℕ) → Marked m p → Child s p r → Marked m r) (low : length m ≤ kind.none) (spaces : Alike s m Namespace u u′) (locals : Alike s m Local l l′) where
+  module _ (closed : (p r : ℕ) → Marked m p → Child s r p → Marked m r) (low : length m ≤ kind.noRow) (spaces : Alike s m Namespace u u′) (locals : Alike s m Local l l′) where
     by-kind : (c : ℕ) → Marked m c → ((x : ℕ) → x < c → Marked m x → holds s u l x ≡ holds s u′ l′ x) → holds s u l c ≡ holds s u′ l′ c
     unfolding shapeOf
     by-kind c h same = go (ℕ-discrete (kindOf s c) kind.anyName) (ℕ-discrete (kindOf s c) kind.nsName) (ℕ-discrete (kindOf s c) kind.name) (ℕ-discrete (kindOf s c) kind.nameChoice)
@@ -64,10 +64,10 @@ module _ (s m : List ℕ) (u l u′ l′ : ℕ) where
         read : Read s c (kindOf s c) (aOf s c) (bOf s c)
         read = record { kind = refl; first = refl; second = refl }
 
-        fits : c ≤ kind.none
+        fits : c ≤ kind.noRow
         fits = omega (arith, marked-row m c h)
 
-        at : (x : ℕ) → (x < c → isClass (sortOf s x) ≡ true → Child s c x) → upto (step s u l) c x ≡ upto (step s u′ l′) c x
+        at : (x : ℕ) → (x < c → isClass (sortOf s x) ≡ true → Child s x c) → upto (step s u l) c x ≡ upto (step s u′ l′) c x
         at x child = below c x (same x) (λ k e. closed c x h (child k e))
 
         go : Dec (kindOf s c ≡ kind.anyName) → Dec (kindOf s c ≡ kind.nsName) → Dec (kindOf s c ≡ kind.name) → Dec (kindOf s c ≡ kind.nameChoice) → holds s u l c ≡ holds s u′ l′ c

@@ -22,8 +22,8 @@ use Rattle.classes.specs.Membership.{holds, inClass}
 use Rattle.classes.specs.Least.{Common}
 use Rattle.classes.specs.Search.{mentionOf}
 use Rattle.classes.specs.declared.Mention.the-variants.{Of, NoMention}
-use Rattle.classes.specs.declared.Part.{Part}
-use Rattle.classes.specs.declared.Part.the-variants.{Namespace, Local}
+use Rattle.classes.specs.declared.NamePart.{NamePart}
+use Rattle.classes.specs.declared.NamePart.the-variants.{Namespace, Local}
 use Rattle.classes.proofs.Holds.{holds-other}
 use Rattle.classes.proofs.SmallModel.{Alike, same-in-class}
 
@@ -73,7 +73,7 @@ module _ {strings : ℕ} {s : List ℕ} (right : RowsRight strings s) where
       go false h true i e = let z : a ≡ x = cc in let l = g (eqb-true k kind.name i) in omega arith
       go false h false i e = let z : _≡_ {A = ℕ} 0 1 = cc in absurd (omega arith)
 
-  mentioned : (part : Part) (r x : ℕ) → r < rowsOf s → mentionOf s r part ≡ Of x → x < strings
+  mentioned : (part : NamePart) (r x : ℕ) → r < rowsOf s → mentionOf s r part ≡ Of x → x < strings
   unfolding shapeOf
   mentioned Namespace r x h e =
       one-of (kindOf s r) (aOf s r) x e (λ k. ltb-true (aOf s r) strings (rw k at (both-fields strings s right r h .0))) (λ k. ltb-true (aOf s r) strings (rw k at (both-fields strings s right r h .0)))
@@ -87,7 +87,7 @@ module _ {strings : ℕ} {s : List ℕ} (right : RowsRight strings s) where
           omega arith
       go false i e = let z : _≡_ {A = ℕ} 0 1 = cc in absurd (omega arith)
 
-  no-mark-tells : (part : Part) (u v : ℕ) → Near strings u v → Alike s marks part u v
+  no-mark-tells : (part : NamePart) (u v : ℕ) → Near strings u v → Alike s marks part u v
   no-mark-tells part u v n r x h e = n .alike x (mentioned part r x (in-marks r h) e)
 
   -- what holds a name is a row
@@ -102,10 +102,10 @@ module _ {strings : ℕ} {s : List ℕ} (right : RowsRight strings s) where
       let p = ltb-true 0 l (and-both (ltb 0 l) (holds s u l c) h .0) in
       sym (same-in-class s marks u l v k closed fits (no-mark-tells Namespace u v n) (no-mark-tells Local l k m) c (ones (rowsOf s) c (class-row u l c h)) p (m .positive p)) ∙ h
     where
-      closed : (p r : ℕ) → Marked marks p → Child s p r → Marked marks r
+      closed : (p r : ℕ) → Marked marks p → Child s r p → Marked marks r
       closed p r i c = ones (rowsOf s) r (let a = child-less c in let b = in-marks p i in omega arith)
 
-      fits : length marks ≤ kind.none
+      fits : length marks ≤ kind.noRow
       fits = rw (length-replicate {A = ℕ} (rowsOf s) 1) (let a = few-rows (right-size right) in omega arith)
 
   pub small-name : (c d u l : ℕ) → Common s c d u l → SmallName strings s c d u l

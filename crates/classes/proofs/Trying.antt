@@ -9,18 +9,18 @@ use lib.Dec.{ltb}
 use lib.ListN.{getD}
 use borrow.Author.Count.{below-none, below-more}
 use borrow.Author.Tests.{ltb-true, ltb-false}
-use Rattle.classes.specs.Least.{Common, Before}
-use Rattle.classes.specs.Search.{Listed, Covers, Sound, Tried, Earlier, Better, TriedName, TriedLocals, TriedAll}
+use Rattle.classes.specs.Least.{Common, NotAfter}
+use Rattle.classes.specs.Search.{Among, Covers, Sound, Tried, Earlier, Better, TriedName, TriedLocals, TriedAll}
 use Rattle.classes.specs.declared.Found.{Found}
 use Rattle.classes.specs.declared.Found.the-variants.{Name, Nothing}
 
-before-trans : {u l v k w j : ℕ} → Before u l v k → Before v k w j → Before u l w j
+before-trans : {u l v k w j : ℕ} → NotAfter u l v k → NotAfter v k w j → NotAfter u l w j
 before-trans (inl a) (inl b) = inl (omega arith)
 before-trans (inl a) (inr b) = inl (omega arith)
 before-trans (inr a) (inl b) = inl (omega arith)
 before-trans (inr a) (inr b) = inr (omega arith, omega arith)
 
-pub covers-later : (r : Found) {u l v k : ℕ} → Covers r u l → Before u l v k → Covers r v k
+pub covers-later : (r : Found) {u l v k : ℕ} → Covers r u l → NotAfter u l v k → Covers r v k
 covers-later (Name w j) a b = before-trans a b
 covers-later Nothing a b = absurd a
 
@@ -81,26 +81,26 @@ module _ {s ls : List ℕ} {c d u : ℕ} {best : Found} where
   pub locals-done : {i n : ℕ} {r : Found} → TryingLocals s c d u ls best i r → n ≤ i → TriedLocals s c d u ls n best r
   locals-done {i} {n} {r} a h = record { better = a .better; tried = at }
     where
-      at : (l : ℕ) → Listed ls n l → Tried s c d r u l
+      at : (l : ℕ) → Among ls n l → Tried s c d r u l
       at l k = rw (k .is) at (a .tried (k .at) (omega (arith, k .before)))
 
 -- the first i namespaces, with n local numbers
 pub record TryingNames (s : List ℕ) (c d : ℕ) (us ls : List ℕ) (n i : ℕ) (r : Found) : Type 0 where
   pub sound : Sound s c d r
-  pub tried : (j : ℕ) → j < i → (l : ℕ) → Listed ls n l → Tried s c d r (getD us j 0) l
+  pub tried : (j : ℕ) → j < i → (l : ℕ) → Among ls n l → Tried s c d r (getD us j 0) l
 
 module _ {s us ls : List ℕ} {c d n : ℕ} where
   pub names-start : TryingNames s c d us ls n 0 Nothing
-  names-start = record { sound = tt; tried = below-none (λ j. (l : ℕ) → Listed ls n l → Tried s c d Nothing (getD us j 0) l) }
+  names-start = record { sound = tt; tried = below-none (λ j. (l : ℕ) → Among ls n l → Tried s c d Nothing (getD us j 0) l) }
 
   pub names-step : {i u : ℕ} {r r′ : Found} → TryingNames s c d us ls n i r → u ≡ getD us i 0 → TriedLocals s c d u ls n r r′ → TryingNames s c d us ls n (i + 1) r′
   names-step {i} {u} {r} {r′} a e b = record {
     sound = b .better .sound (a .sound);
-    tried = below-more (λ j. (l : ℕ) → Listed ls n l → Tried s c d r′ (getD us j 0) l) i (λ j h l k. still-tried (b .better) (a .tried j h l k)) (rw e at (b .tried));
+    tried = below-more (λ j. (l : ℕ) → Among ls n l → Tried s c d r′ (getD us j 0) l) i (λ j h l k. still-tried (b .better) (a .tried j h l k)) (rw e at (b .tried));
   }
 
   pub names-done : {i m : ℕ} {r : Found} → TryingNames s c d us ls n i r → m ≤ i → TriedAll s c d us m ls n r
   names-done {i} {m} {r} a h = record { sound = a .sound; tried = at }
     where
-      at : (u l : ℕ) → Listed us m u → Listed ls n l → Tried s c d r u l
+      at : (u l : ℕ) → Among us m u → Among ls n l → Tried s c d r u l
       at u l p q = rw (p .is) at (a .tried (p .at) (omega (arith, p .before)) l q)

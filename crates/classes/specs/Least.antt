@@ -14,9 +14,9 @@ pub record Common (s : List ℕ) (c d u l : ℕ) : Type 0 where
   pub second : inClass s u l d ≡ true
 
 -- the name u, l is before v, k, or is the same
-abbrev pub Before : ℕ → ℕ → ℕ → ℕ → Type 0
-Before u l v k = (u < v) ⊎ ((u ≡ v) × (l ≤ k))
+abbrev pub NotAfter : ℕ → ℕ → ℕ → ℕ → Type 0
+NotAfter u l v k = (u < v) ⊎ ((u ≡ v) × (l ≤ k))
 
-abbrev pub Least : List ℕ → ℕ → ℕ → Found → Type 0
-Least s c d (Name u l) = Common s c d u l × ((v k : ℕ) → Common s c d v k → Before u l v k)
-Least s c d Nothing = (u l : ℕ) → ¬ Common s c d u l
+abbrev pub LeastCommon : List ℕ → ℕ → ℕ → Found → Type 0
+LeastCommon s c d (Name u l) = Common s c d u l × ((v k : ℕ) → Common s c d v k → NotAfter u l v k)
+LeastCommon s c d Nothing = (u l : ℕ) → ¬ Common s c d u l

@@ -8,8 +8,8 @@ ghost use Rattle.schema.specs.RowRule.{maxRows};
 ghost use Rattle.schema.specs.Rows.{rowsOf};
 ghost use Rattle.schema.specs.Views.{classOf};
 ghost use Rattle.classes.specs.Membership.{memberBy, holds, inClass};
-ghost use Rattle.classes.specs.Least.{Least};
-ghost use Rattle.classes.specs.Search.{markedRows, Closure, mentionOf, leastOf, Listed, Added, Mentioned, Fresh, Candidates, Earlier, TriedName, TriedLocals, TriedAll};
+ghost use Rattle.classes.specs.Least.{LeastCommon};
+ghost use Rattle.classes.specs.Search.{markedRows, Closure, mentionOf, leastOf, Among, MentionAdded, Mentioned, Fresh, Candidates, Earlier, TriedName, TriedLocals, TriedAll};
 
 // A name, or none.
 pub enum Found {
@@ -18,7 +18,7 @@ pub enum Found {
 }
 
 // The two parts of a name.
-enum Part {
+enum NamePart {
     Namespace,
     Local,
 }
@@ -64,7 +64,7 @@ fn class_holds(schema: &[u32], row: u32, namespace: u32, local: u32) -> bool
 }
 
 // Whether the class at a smaller row than its parent, an except or a member of a choice, holds a name.
-// A field that is no smaller row, as NONE, holds none.
+// A field that is no smaller row, as NO_ROW, holds none.
 fn smaller_holds(schema: &[u32], parent: u32, row: u32, namespace: u32, local: u32) -> bool
     ensures { λ r. ⌜ r ≡ upto (λ row below. memberBy below namespace local (classOf (now (schema .entry)) row)) parent row ⌝ }
 {
@@ -99,12 +99,12 @@ fn mark_below(schema: &[u32], marks: &mut [u32])
 }
 
 // The number that a row names as a part.
-fn mention_of(schema: &[u32], row: u32, part: Part) -> Mention
+fn mention_of(schema: &[u32], row: u32, part: NamePart) -> Mention
     ensures { λ r. ⌜ r ≡ mentionOf (now (schema .entry)) row part ⌝ }
 {
     let kind = schema::kind(schema, row);
     match part {
-        Part::Namespace => {
+        NamePart::Namespace => {
             if kind == schema::NS_NAME {
                 return Mention::Of(schema::field_a(schema, row));
             }
@@ -113,7 +113,7 @@ fn mention_of(schema: &[u32], row: u32, part: Part) -> Mention
             }
             Mention::NoMention
         }
-        Part::Local => {
+        NamePart::Local => {
             if kind == schema::NAME {
                 return Mention::Of(schema::field_b(schema, row));
             }
@@ -124,7 +124,7 @@ fn mention_of(schema: &[u32], row: u32, part: Part) -> Mention
 
 // Whether a number is among the first `count` of a list.
 fn is_listed(list: &[u32], count: usize, number: u32) -> bool
-    ensures { λ r. ⌜ Decides (Listed (now (list .entry)) count number) r ⌝ }
+    ensures { λ r. ⌜ Decides (Among (now (list .entry)) count number) r ⌝ }
 {
     let mut i = 0;
     while i < count {
@@ -140,13 +140,13 @@ fn is_listed(list: &[u32], count: usize, number: u32) -> bool
 fn add_mention(
     schema: &[u32],
     marks: &[u32],
-    part: Part,
+    part: NamePart,
     row: u32,
     list: &mut [u32],
     count: usize,
 ) -> usize
     requires { ⌜ count < length (now list) ⌝ }
-    ensures { λ r. ⌜ Added (now (schema .entry)) (now (marks .entry)) part row (now (list .entry)) count (now (list .exit)) r ⌝ }
+    ensures { λ r. ⌜ MentionAdded (now (schema .entry)) (now (marks .entry)) part row (now (list .entry)) count (now (list .exit)) r ⌝ }
 {
     if tables::word(marks, row as usize) != 1 {
         return count;
@@ -162,7 +162,7 @@ fn add_mention(
 }
 
 // Lists what the marked rows mention, and answers how many numbers these are.
-fn list_mentions(schema: &[u32], marks: &[u32], part: Part, list: &mut [u32]) -> usize
+fn list_mentions(schema: &[u32], marks: &[u32], part: NamePart, list: &mut [u32]) -> usize
     requires { ⌜ (length (now marks) ≡ markedRows) × (length (now list) ≡ markedRows + 1) ⌝ }
     ensures { λ r. ⌜ Mentioned (now (schema .entry)) (now (marks .entry)) part (now (list .exit)) r ⌝ }
 {
@@ -187,17 +187,17 @@ fn fresh(list: &[u32], count: usize, first: u32) -> u32
     number
 }
 
-fn least_of(part: Part) -> u32
+fn least_of(part: NamePart) -> u32
     ensures { λ r. ⌜ r ≡ leastOf part ⌝ }
 {
     match part {
-        Part::Namespace => 0,
-        Part::Local => 1,
+        NamePart::Namespace => 0,
+        NamePart::Local => 1,
     }
 }
 
 // Lists the numbers to try: what the marked rows mention, and the least number that they do not. Answers how many these are.
-fn list_candidates(schema: &[u32], marks: &[u32], part: Part, list: &mut [u32]) -> usize
+fn list_candidates(schema: &[u32], marks: &[u32], part: NamePart, list: &mut [u32]) -> usize
     requires { ⌜ (length (now marks) ≡ markedRows) × (length (now list) ≡ markedRows + 1) ⌝ }
     ensures { λ r. ⌜ Candidates (now (schema .entry)) (now (marks .entry)) part (now (list .exit)) r ⌝ }
 {
@@ -305,15 +305,15 @@ fn try_names(
 // The least name that the classes at two rows have in common.
 pub fn least_common(schema: &[u32], first: u32, second: u32) -> Found
     requires { ⌜ rowsOf (now schema) ≤ maxRows ⌝ }
-    ensures { λ r. ⌜ Least (now (schema .entry)) first second r ⌝ }
+    ensures { λ r. ⌜ LeastCommon (now (schema .entry)) first second r ⌝ }
 {
     let mut marks = [0u32; MARKED_ROWS as usize];
     tables::put_u32(&mut marks, first as usize, 1);
     tables::put_u32(&mut marks, second as usize, 1);
     mark_below(schema, &mut marks);
     let mut namespaces = [0u32; MAX_CANDIDATES];
-    let n = list_candidates(schema, &marks, Part::Namespace, &mut namespaces);
+    let n = list_candidates(schema, &marks, NamePart::Namespace, &mut namespaces);
     let mut locals = [0u32; MAX_CANDIDATES];
-    let k = list_candidates(schema, &marks, Part::Local, &mut locals);
+    let k = list_candidates(schema, &marks, NamePart::Local, &mut locals);
     try_names(schema, first, second, &namespaces, n, &locals, k)
 }

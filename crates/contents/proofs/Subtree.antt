@@ -6,27 +6,27 @@ use mathlib.Core.List.{List, append-nil}
 use native.Mathlib.Omega.{arith}
 use lib.Dec.{eqb}
 use Rattle.instance.specs.Nodes.{element, nodesOf, kindOf, parentOf, isChild}
-use Rattle.instance.specs.NodeRule.{nearest, Up, itself, above, NodesRight}
+use Rattle.instance.specs.NodeRule.{nearest, SelfOrAncestor, itself, above, NodesRight}
 use Rattle.instance.specs.Elements.{rowsWhere}
 use Rattle.instance.proofs.Ancestors.{up-before, up-parent}
 use Rattle.instance.proofs.Elements.{rooted, few, parent-up}
 use Rattle.instance.proofs.Order.{child-parent}
 use Rattle.tables.proofs.Booleans.{is-false}
 
-up-trans : {t : List ℕ} {p q e : ℕ} → Up t p q → Up t q e → Up t p e
+up-trans : {t : List ℕ} {p q e : ℕ} → SelfOrAncestor t p q → SelfOrAncestor t q e → SelfOrAncestor t p e
 up-trans u itself = u
 up-trans u (above f v) = above f (up-trans u v)
 
 -- the nearest element of a row after e is below e only where the row's parent is
-nearest-parent : {t : List ℕ} {e r : ℕ} → e < r → Up t e (nearest t r) → Up t e (parentOf t r)
+nearest-parent : {t : List ℕ} {e r : ℕ} → e < r → SelfOrAncestor t e (nearest t r) → SelfOrAncestor t e (parentOf t r)
 nearest-parent {t} {e} {r} h u = go (eqb (kindOf t r) element) refl
   where
-    go : (b : Bool) → eqb (kindOf t r) element ≡ b → Up t e (parentOf t r)
+    go : (b : Bool) → eqb (kindOf t r) element ≡ b → SelfOrAncestor t e (parentOf t r)
     go true q = up-parent (rw q at u) h
     go false q = rw q at u
 
 module _ {strings : ℕ} {t : List ℕ} (right : NodesRight strings t) {e r : ℕ} (after : e < r) (within : r < nodesOf t) (out : parentOf t r < e) where
-  not-below : (k : ℕ) → r + k < nodesOf t → ¬ Up t e (nearest t (r + k))
+  not-below : (k : ℕ) → r + k < nodesOf t → ¬ SelfOrAncestor t e (nearest t (r + k))
   not-below zero h u =
       let same : r + 0 ≡ r = omega arith in
       let low = up-before (rooted right) (λ z. omega (arith, few right)) (nearest-parent after (rw same at u)) (omega arith) in

@@ -11,8 +11,8 @@ use lib.Dec.{eqb, ltb}
 use lib.ListN.{length, List·getD-eq-default}
 use borrow.Author.Tests.{eq-eqb, eqb-true, eqb-false, ltb-true}
 use Rattle.tables.proofs.Numbers.{not-less}
-use Rattle.instance.specs.Nodes.{element, attribute, text, none, nodesOf, kindOf, parentOf, aOf, bOf, cOf, isChild, isAttribute, SameName}
-use Rattle.instance.specs.NodeRule.{maxNodes, fieldsRight, nearest, Up, itself, above, ParentRight, SizeFault, broken-length, bad-size, bad-node, bad-fields, bad-parent, late-attribute, same-attribute, NodesRight}
+use Rattle.instance.specs.Nodes.{element, attribute, text, noParent, nodesOf, kindOf, parentOf, aOf, bOf, cOf, isChild, isAttribute, SameName}
+use Rattle.instance.specs.NodeRule.{maxNodes, fieldsRight, nearest, SelfOrAncestor, itself, above, ParentRight, SizeFault, broken-length, bad-size, bad-node, bad-fields, bad-parent, late-attribute, same-attribute, NodesRight}
 use Rattle.instance.specs.Walk.{Rooted}
 use Rattle.instance.proofs.Size.{few-nodes}
 use Rattle.instance.proofs.Ancestors.{sure, up-none, rooted-none, rooted-more}
@@ -100,7 +100,7 @@ module _ {strings : ℕ} {t : List ℕ} (right : NodesRight strings t) where
   parent-less r h l = rooted .before r h l
 
   -- an ancestor of an element is one, where the parents of the rows below n are
-  up-elements : {n q e : ℕ} → n ≤ nodesOf t → ((x : ℕ) → 0 < x → x < n → kindOf t (parentOf t x) ≡ element) → q ≢ none → Up t q e → e < n → kindOf t e ≡ element → kindOf t q ≡ element
+  up-elements : {n q e : ℕ} → n ≤ nodesOf t → ((x : ℕ) → 0 < x → x < n → kindOf t (parentOf t x) ≡ element) → q ≢ noParent → SelfOrAncestor t q e → e < n → kindOf t e ≡ element → kindOf t q ≡ element
   up-elements m below f itself h k = k
   up-elements {n} {q} {e} m below f (above g u) h k = go (decLt 0 e) (λ l. up-elements m below f u l)
     where
@@ -122,7 +122,7 @@ module _ {strings : ℕ} {t : List ℕ} (right : NodesRight strings t) where
           absurd (eqb-false _ _ e (ap (kindOf t) r₀ ∙ rooted .root-kind (omega arith)))
 
   -- the parent of a row is the nearest element of the row before, or an ancestor of that
-  pub parent-up : (r : ℕ) → suc r < nodesOf t → ¬ (¬ Up t (parentOf t (suc r)) (nearest t r))
+  pub parent-up : (r : ℕ) → suc r < nodesOf t → ¬ (¬ SelfOrAncestor t (parentOf t (suc r)) (nearest t r))
   unfolding ParentRight
   parent-up r h f = right (suc r) (bad-node h (bad-parent (λ p. f (p .1))))
 
@@ -147,7 +147,7 @@ module _ {strings : ℕ} {t : List ℕ} (right : NodesRight strings t) where
       go (yes z) = rw (← p) (parent-less r z l)
       go (no z) =
           let r₀ : r ≡ 0 = omega arith in
-          let q : parentOf t r ≡ none = ap (parentOf t) r₀ ∙ rooted .root-parent (omega arith) in
+          let q : parentOf t r ≡ noParent = ap (parentOf t) r₀ ∙ rooted .root-parent (omega arith) in
           absurd (omega (arith, few))
 
   -- the children and attributes of a row are later rows of the table
@@ -162,7 +162,7 @@ module _ {strings : ℕ} {t : List ℕ} (right : NodesRight strings t) where
       (after-parent e r h l (attribute-parent t e r c), l)
 
   -- between an element and another that is above it stands a child of the one above
-  child-above : {e n : ℕ} → e < nodesOf t → Up t e n → e ≢ n → n < nodesOf t → kindOf t n ≡ element → (c : ℕ) × (c ≤ n) × (isChild t e c ≡ true)
+  child-above : {e n : ℕ} → e < nodesOf t → SelfOrAncestor t e n → e ≢ n → n < nodesOf t → kindOf t n ≡ element → (c : ℕ) × (c ≤ n) × (isChild t e c ≡ true)
   child-above h itself f l k = absurd (f refl)
   child-above {e} {n} h (above g u) f l k = go (decLt 0 n) (ℕ-discrete e (parentOf t n)) (λ d m. child-above h u d m)
     where
@@ -190,7 +190,7 @@ module _ {strings : ℕ} {t : List ℕ} (right : NodesRight strings t) where
       near : (nearest t m ≤ m) × (kindOf t (nearest t m) ≡ element)
       near = nearest-row m (omega (arith, l)) (λ z. parent-element m z (omega (arith, l)))
 
-      beside : Up t e (nearest t m) → ⊥
+      beside : SelfOrAncestor t e (nearest t m) → ⊥
       beside u = go (ℕ-discrete e (nearest t m)) (eqb (kindOf t m) element) refl
         where
           go : Dec (e ≡ nearest t m) → (b : Bool) → eqb (kindOf t m) element ≡ b → ⊥

@@ -14,9 +14,9 @@ use borrow.Author.Count.{below-none, below-more}
 use Rattle.tables.specs.Answers.{Decides}
 use Rattle.tables.specs.Outputs.{zeros}
 use Rattle.tables.proofs.Fill.{getD-zeros}
-use Rattle.instance.specs.Nodes.{element, attribute, text, none, kindOf, parentOf, aOf, bOf, cOf, isChild, isAttribute}
+use Rattle.instance.specs.Nodes.{element, attribute, text, noParent, kindOf, parentOf, aOf, bOf, cOf, isChild, isAttribute}
 use Rattle.instance.specs.NodeRule.{maxNodes, fieldsRight, WrongNode, bad-fields, bad-parent, late-attribute, same-attribute, text-after-text}
-use Rattle.instance.specs.Walk.{LastChild, no-child, child-at, LastChildren, Twin, Repeats, repeats, Placed}
+use Rattle.instance.specs.Walk.{LastChild, no-child, child-at, LastChildren, Twin, RepeatsName, repeats, Placed}
 use Rattle.instance.proofs.Ancestors.{root-told, parent-before}
 
 -- a pair of tests that holds
@@ -81,7 +81,7 @@ module _ {t last : List ℕ} {r : ℕ} (c : LastChildren t last r) where
       go e l (yes z) = rw (z, getD-set-same last p k 0 h) (last-new r (rw (← i, ← j, eq-eqb p p refl) child) (sym j))
       go e l (no f) = rw (getD-set-other last p e k 0 f) (last-kept (rw (ne-eqb (parentOf t r) e (λ z. f (sym z ∙ sym i)))) (c .kinds e l))
 
-pub no-repeats : {t : List ℕ} {p r q : ℕ} → r ≤ q → ((x : ℕ) → x < q → p < x → ¬ Twin t p x r) → ¬ Repeats t p r
+pub no-repeats : {t : List ℕ} {p r q : ℕ} → r ≤ q → ((x : ℕ) → x < q → p < x → ¬ Twin t p x r) → ¬ RepeatsName t p r
 no-repeats h f (repeats x m l twin) = f x (omega arith) m twin
 
 -- the test of the fields that the code has read
@@ -113,7 +113,7 @@ module _ {t last : List ℕ} {r k p before : ℕ} (placed : Placed t last r) (ke
       go (no-child z n) = absurd (f z)
       go (child-at q l c z b) = late-attribute q l (is-attribute e) (rw (← pe) c)
 
-  repeated : {strings : ℕ} → k ≡ attribute → Repeats t p r → WrongNode strings t r
+  repeated : {strings : ℕ} → k ≡ attribute → RepeatsName t p r → WrongNode strings t r
   repeated e (repeats q m l twin) = same-attribute q l (is-attribute e) (rw (← pe) (twin .0)) (twin .1)
 
   pub text-follows : {strings : ℕ} → k ≡ text → before ≡ text → WrongNode strings t r
@@ -132,7 +132,7 @@ module _ {t last : List ℕ} {r k p before : ℕ} (placed : Placed t last r) (ke
     element-right a x (same-attribute q l y c s) = a (ke ∙ y)
     element-right a x (text-after-text q l y z s b) = x (ke ∙ y)
 
-    attribute-right : k ≡ attribute → before ≡ 0 → ¬ Repeats t p r → ¬ WrongNode strings t r
+    attribute-right : k ≡ attribute → before ≡ 0 → ¬ RepeatsName t p r → ¬ WrongNode strings t r
     attribute-right e f n (bad-fields g) = true≢false (sym fields ∙ g)
     attribute-right e f n (bad-parent g) = g (placed .parent)
     attribute-right e f n (late-attribute q l y c) = go (last-child (after-parent (omega arith)))
@@ -150,12 +150,12 @@ module _ {t last : List ℕ} {r k p before : ℕ} (placed : Placed t last r) (ke
         go (no z) =
             let q₀ : q ≡ 0 = omega arith in
             let root = placed .rooted .root-parent (omega arith) in
-            let at-root : parentOf t q ≡ none = ap (parentOf t) q₀ ∙ root in
+            let at-root : parentOf t q ≡ noParent = ap (parentOf t) q₀ ∙ root in
             omega (arith, own, after-parent (omega arith), placed .few)
     attribute-right e f n (text-after-text q l y z s b) = omega arith
 
     -- an attribute of an element that has no child yet is wrong exactly if it repeats a name
-    pub attribute-told-wrong : k ≡ attribute → before ≡ 0 → (answer : Bool) → Decides (Repeats t p r) answer → Decides (WrongNode strings t r) answer
+    pub attribute-told-wrong : k ≡ attribute → before ≡ 0 → (answer : Bool) → Decides (RepeatsName t p r) answer → Decides (WrongNode strings t r) answer
     attribute-told-wrong e f true a = repeated e a
     attribute-told-wrong e f false a = attribute-right e f a
 

@@ -6,7 +6,7 @@ use mathlib.Core.Bool.{Bool, true, false, cond, _&&_, _||_}
 use mathlib.Core.List.{List}
 use lib.ListN.{length}
 use lib.Dec.{ltb, eqb}
-use Rattle.instance.specs.Nodes.{element, attribute, text, none, nodesOf, kindOf, parentOf, aOf, bOf, cOf, isChild, isAttribute, SameName}
+use Rattle.instance.specs.Nodes.{element, attribute, text, noParent, nodesOf, kindOf, parentOf, aOf, bOf, cOf, isChild, isAttribute, SameName}
 
 abbrev pub maxNodes : ℕ
 maxNodes = 1024
@@ -23,14 +23,14 @@ abbrev pub nearest : List ℕ → ℕ → ℕ
 nearest t r = cond (eqb (kindOf t r) element) r (parentOf t r)
 
 -- q is e or an ancestor of e
-pub data Up (t : List ℕ) (q : ℕ) : ℕ → Type 0 where
-  itself : Up t q q
-  above : {e : ℕ} → e ≢ none → Up t q (parentOf t e) → Up t q e
+pub data SelfOrAncestor (t : List ℕ) (q : ℕ) : ℕ → Type 0 where
+  itself : SelfOrAncestor t q q
+  above : {e : ℕ} → e ≢ noParent → SelfOrAncestor t q (parentOf t e) → SelfOrAncestor t q e
 
 -- row 0 has no parent; the parent of another row is the nearest element of the row before or an ancestor of that
 unfoldable pub ParentRight : List ℕ → ℕ → Type 0
-ParentRight t zero = (kindOf t 0 ≡ element) × (parentOf t 0 ≡ none)
-ParentRight t (suc r) = (parentOf t (suc r) ≢ none) × Up t (parentOf t (suc r)) (nearest t r)
+ParentRight t zero = (kindOf t 0 ≡ element) × (parentOf t 0 ≡ noParent)
+ParentRight t (suc r) = (parentOf t (suc r) ≢ noParent) × SelfOrAncestor t (parentOf t (suc r)) (nearest t r)
 
 -- the number of words and rows
 pub data SizeFault (t : List ℕ) (r : ℕ) : Type 0 where

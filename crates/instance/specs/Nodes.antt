@@ -17,8 +17,8 @@ abbrev pub text : ℕ
 text = 3
 
 -- document 01's `-`: no parent
-abbrev pub none : ℕ
-none = 4294967295
+abbrev pub noParent : ℕ
+noParent = 4294967295
 
 abbrev pub nodesOf : List ℕ → ℕ
 nodesOf t = length t / 5

@@ -5,14 +5,14 @@ use mathlib.Core.Bool.{Bool, true, false}
 use mathlib.Core.List.{List}
 use lib.ListN.{length, getD}
 use Rattle.tables.specs.Answers.{Decides}
-use Rattle.instance.specs.Nodes.{element, none, nodesOf, kindOf, parentOf, aOf, bOf, cOf, isChild, isAttribute, SameName}
+use Rattle.instance.specs.Nodes.{element, noParent, nodesOf, kindOf, parentOf, aOf, bOf, cOf, isChild, isAttribute, SameName}
 use Rattle.instance.specs.NodeRule.{maxNodes, fieldsRight, ParentRight, WrongNode}
 
 -- row 0 is the root, and the parent of every other row comes before it
 pub record Rooted (t : List ℕ) (r : ℕ) : Type 0 where
   pub few : r ≤ maxNodes
   pub root-kind : 0 < r → kindOf t 0 ≡ element
-  pub root-parent : 0 < r → parentOf t 0 ≡ none
+  pub root-parent : 0 < r → parentOf t 0 ≡ noParent
   pub before : (q : ℕ) → 0 < q → q < r → parentOf t q < q
 
 -- k is the kind of the last child of e below row r, and 0 where e has none
@@ -28,8 +28,8 @@ pub record LastChildren (t last : List ℕ) (r : ℕ) : Type 0 where
 abbrev pub Twin : List ℕ → ℕ → ℕ → ℕ → Type 0
 Twin t p q r = (isAttribute t p q ≡ true) × SameName t q r
 
-pub data Repeats (t : List ℕ) (p r : ℕ) : Type 0 where
-  repeats : (q : ℕ) → p < q → q < r → Twin t p q r → Repeats t p r
+pub data RepeatsName (t : List ℕ) (p r : ℕ) : Type 0 where
+  repeats : (q : ℕ) → p < q → q < r → Twin t p q r → RepeatsName t p r
 
 -- row r has the right parent, and the rows below it are known
 pub record Placed (t last : List ℕ) (r : ℕ) : Type 0 where

@@ -10,7 +10,7 @@ pub const MAX_NODES: usize = 1024;
 pub const MAX_WIDTH: u32 = 63;
 
 // Document 01's `-`: no parent.
-pub const NONE: u32 = 4294967295;
+pub const NO_PARENT: u32 = 4294967295;
 
 // The kinds of rows.
 pub const ELEMENT: u32 = 1;

@@ -75,7 +75,7 @@ digit-is : (d : ℕ) → d < 10 → isDigit (48 + d) ≡ true
 digit-is d h = rw (le-leb 48 (48 + d) (omega arith), le-leb (48 + d) 57 (omega arith))
 
 -- a text of digits that does not begin with 0, of value n
-record Written (n : ℕ) (l : List ℕ) : Type 0 where
+record WrittenDecimal (n : ℕ) (l : List ℕ) : Type 0 where
   first : ℕ
   rest : List ℕ
   is : l ≡ (48 + first) ∷ rest
@@ -84,10 +84,10 @@ record Written (n : ℕ) (l : List ℕ) : Type 0 where
   digits : allDigits l ≡ true
   value : valueFrom 0 l ≡ n
 
-written-short : (n : ℕ) → 0 < n → n < 10 → Written n ((48 + n) ∷ [])
+written-short : (n : ℕ) → 0 < n → n < 10 → WrittenDecimal n ((48 + n) ∷ [])
 written-short n h k = record { first = n; rest = []; is = refl; above = h; below = k; digits = rw (digit-is n k); value = omega arith }
 
-written-more : (n d : ℕ) {l : List ℕ} → d < 10 → Written n l → Written (n * 10 + d) (l ++ (48 + d) ∷ [])
+written-more : (n d : ℕ) {l : List ℕ} → d < 10 → WrittenDecimal n l → WrittenDecimal (n * 10 + d) (l ++ (48 + d) ∷ [])
 written-more n d {l} h w = record {
   first = w .first;
   rest = w .rest ++ (48 + d) ∷ [];
@@ -98,12 +98,12 @@ written-more n d {l} h w = record {
   value = value-append 0 l ((48 + d) ∷ []) ∙ let e = w .value in omega arith;
 }
 
-written : (k n : ℕ) → 0 < n → n < 10 ^ suc k → Written n (decimalBy (suc k) n)
+written : (k n : ℕ) → 0 < n → n < 10 ^ suc k → WrittenDecimal n (decimalBy (suc k) n)
 written zero n p h = let h′ : n < 10 = h in rw (by-short zero n h′) (written-short n p h′)
 written (suc k) n p h =
     let h′ : n < 10 ^ suc k * 10 = rw pow-suc at h in
     ⊎-elim (λ l. rw (by-short (suc k) n l) (written-short n p l))
-    (λ l. rw (by-more (suc k) n l) (subst (λ m. Written m (decimalBy (suc k) (n / 10) ++ (48 + n % 10) ∷ [])) (div-add-mod' n 10)
+    (λ l. rw (by-more (suc k) n l) (subst (λ m. WrittenDecimal m (decimalBy (suc k) (n / 10) ++ (48 + n % 10) ∷ [])) (div-add-mod' n 10)
     (written-more (n / 10) (n % 10) (omega arith) (written k (n / 10) (omega arith) (omega arith)))))
     (lt-or-ge n 10)
 
@@ -111,7 +111,7 @@ no-zero : (d : ℕ) (r : List ℕ) → 0 < d → noLeadingZero ((48 + d) ∷ r) 
 no-zero d [] h = refl
 no-zero d (c ∷ r) h = rw (ne-eqb (48 + d) 48 (λ e. omega arith))
 
-number-written : {n : ℕ} {l : List ℕ} → Written n l → n ≤ largestNumber → numberOf l ≡ some n
+number-written : {n : ℕ} {l : List ℕ} → WrittenDecimal n l → n ≤ largestNumber → numberOf l ≡ some n
 number-written {n} {l} w h =
     rw (ap noLeadingZero (w .is) ∙ no-zero (w .first) (w .rest) (w .above), w .digits, w .value, le-leb n largestNumber h)
 
@@ -120,7 +120,7 @@ word-digit : (d : ℕ) (r : List ℕ) → wordOf ((48 + d) ∷ r) ≡ numberOf (
 word-digit d [] = rw (ne-eqb (48 + d) 45 (λ e. omega arith))
 word-digit d (c ∷ r) = refl
 
-word-written : {n : ℕ} {l : List ℕ} → Written n l → wordOf l ≡ numberOf l
+word-written : {n : ℕ} {l : List ℕ} → WrittenDecimal n l → wordOf l ≡ numberOf l
 word-written w = rw (w .is) (word-digit (w .first) (w .rest))
 
 -- a number that was written reads back

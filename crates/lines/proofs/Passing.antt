@@ -15,7 +15,7 @@ use Rattle.jobs.specs.Numbers.{numberOf, hexBytes}
 use Rattle.jobs.specs.Lines.{fieldsOf, after}
 use Rattle.jobs.specs.Reading.{line, lineBy, literal, isNothing, andThen, count, atMost, withString, addString, wordsOf, rowOf}
 use Rattle.lines.specs.Parts.{stringAfter}
-use Rattle.lines.specs.Steps.{Passes, Stops}
+use Rattle.lines.specs.Steps.{TakesLine, Stops}
 
 -- ---- one line
 module _ {A : Type 0} (holds : List ℕ → Option A) {ls : List (List ℕ)} where
@@ -23,7 +23,7 @@ module _ {A : Type 0} (holds : List ℕ → Option A) {ls : List (List ℕ)} whe
   line-missing e = record { on = λ n next. ap (λ (x : List (List ℕ)). line holds n x next) e }
 
   module _ (l : List ℕ) (rest : List (List ℕ)) (e : ls ≡ l ∷ rest) where
-    pub line-passes : {a : A} → holds l ≡ some a → Passes holds ls a rest
+    pub line-passes : {a : A} → holds l ≡ some a → TakesLine holds ls a rest
     line-passes f = record { on = λ n next. ap (λ (x : List (List ℕ)). line holds n x next) e ∙ ap (λ (o : Option A). lineBy o n rest next) f }
 
     pub line-stops : holds l ≡ none → Stops holds ls

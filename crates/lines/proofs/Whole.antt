@@ -13,12 +13,12 @@ use Rattle.instance.specs.NodeRule.{maxNodes}
 use Rattle.jobs.specs.Ascii.{ascii}
 use Rattle.jobs.specs.Lines.{linesOf}
 use Rattle.jobs.specs.Reading.{maxFile, readJob, readLines, read, wrong, lines, literal, count, addRow, addNode}
-use Rattle.lines.specs.Steps.{Passes, Stops, Next, Add, stringTables, readStrings, StringsTo, Adds, readRows, readTable, RowsTo, RowsStop, RowSection, readEnd, readFront, maxFront, readBack, withRows, BackTo, LinesTo}
+use Rattle.lines.specs.Steps.{TakesLine, Stops, Next, Add, stringTables, readStrings, StringsTo, Adds, readRows, readTable, RowsTo, RowsStop, RowSection, readEnd, readFront, maxFront, readBack, withRows, BackTo, LinesTo}
 use Rattle.lines.specs.declared.Section.{Section}
 use Rattle.lines.specs.declared.Section.the-variants.{Read, Wrong}
 
 -- ---- a table of rows
-module _ (counted : List ℕ) (limit : ℕ) {ls rest : List (List ℕ)} {rows : ℕ} (pass : Passes (count counted limit) ls rows rest) (n : ℕ) where
+module _ (counted : List ℕ) (limit : ℕ) {ls rest : List (List ℕ)} {rows : ℕ} (pass : TakesLine (count counted limit) ls rows rest) (n : ℕ) where
   after-count : (add : Add) (t : Tables) (next : Next) → readTable counted limit n ls add t next ≡ readRows rows (n + 1) rest add t next
   after-count add t next = pass .on n (λ rows n rest. lines add rows t n rest next) ∙ ap (λ (m : ℕ). lines add rows t m rest next) (sym (add-one n))
 
@@ -54,11 +54,11 @@ adds-node = record {
 }
 
 -- ---- the front
-module _ {ls rest : List (List ℕ)} (header : Passes (literal (ascii "rng=1")) ls [] rest) where
+module _ {ls rest : List (List ℕ)} (header : TakesLine (literal (ascii "rng=1")) ls [] rest) where
   pub front-no-count : Stops (count (ascii "strings=") maxStrings) rest → (next : Next) → readFront ls next ≡ wrong 2
   front-no-count s next = header .on 1 _ ∙ s .on 2 _
 
-  module _ {strings : ℕ} {after : List (List ℕ)} (counted : Passes (count (ascii "strings=") maxStrings) rest strings after) where
+  module _ {strings : ℕ} {after : List (List ℕ)} (counted : TakesLine (count (ascii "strings=") maxStrings) rest strings after) where
     front-strings : (next : Next) → readFront ls next ≡ readStrings strings 3 after next
     front-strings next = header .on 1 _ ∙ counted .on 2 _
 

@@ -33,7 +33,7 @@ maxWords = 5120
 
 -- ---- one line
 -- the first line holds a, and the rest comes after it
-pub record Passes {A : Type 0} (holds : List ℕ → Option A) (ls : List (List ℕ)) (a : A) (rest : List (List ℕ)) : Type 0 where
+pub record TakesLine {A : Type 0} (holds : List ℕ → Option A) (ls : List (List ℕ)) (a : A) (rest : List (List ℕ)) : Type 0 where
   pub on : (n : ℕ) (next : A → ℕ → List (List ℕ) → Reading) → line holds n ls next ≡ next a (suc n) rest
 
 -- the first line is wrong, or missing
@@ -44,7 +44,7 @@ pub record Stops {A : Type 0} (holds : List ℕ → Option A) (ls : List (List �
 pub record LiteralTo (text file : List ℕ) (at e : ℕ) : Type 0 where
   pub within : e < length file
   pub feed : getD file e 0 ≡ lineFeed
-  pub passes : Passes (literal text) (linesOf (drop at file)) [] (linesOf (drop (e + 1) file))
+  pub passes : TakesLine (literal text) (linesOf (drop at file)) [] (linesOf (drop (e + 1) file))
 
 abbrev pub LiteralLine : List ℕ → List ℕ → ℕ → Found → Type 0
 LiteralLine text file at (At e) = LiteralTo text file at e
@@ -53,7 +53,7 @@ LiteralLine text file at Nothing = Stops (literal text) (linesOf (drop at file))
 -- a count n keeps its limit, and the next line starts at p
 pub record CountTo (key : List ℕ) (limit : ℕ) (file : List ℕ) (at n p : ℕ) : Type 0 where
   pub keeps : n ≤ limit
-  pub passes : Passes (count key limit) (linesOf (drop at file)) n (linesOf (drop p file))
+  pub passes : TakesLine (count key limit) (linesOf (drop at file)) n (linesOf (drop p file))
 
 abbrev pub CountLine : List ℕ → ℕ → List ℕ → ℕ → Counted → Type 0
 CountLine key limit file at (Count n p) = CountTo key limit file at n p

@@ -26,10 +26,10 @@ module _ {y : ℕ × ℕ} where
   mem-second (x ∷ a) m = List·Memᴰ·tail (mem-second a m)
 
 -- the members of one list precede those of another
-abbrev Before : List (ℕ × ℕ) → List (ℕ × ℕ) → Type 0
-Before a b = (x y : ℕ × ℕ) → List·Memᴰ x a → List·Memᴰ y b → Precedes x y
+abbrev AllPrecede : List (ℕ × ℕ) → List (ℕ × ℕ) → Type 0
+AllPrecede a b = (x y : ℕ × ℕ) → List·Memᴰ x a → List·Memᴰ y b → Precedes x y
 
-rising-append : (a b : List (ℕ × ℕ)) → Rising a → Rising b → Before a b → Rising (a ++ b)
+rising-append : (a b : List (ℕ × ℕ)) → Rising a → Rising b → AllPrecede a b → Rising (a ++ b)
 rising-append [] b r q f = q
 rising-append (x ∷ []) [] r q f = rising-one
 rising-append (x ∷ []) (y ∷ b) r q f = rising-more (f x y (List·Memᴰ·head refl) (List·Memᴰ·head refl)) q
@@ -79,7 +79,7 @@ module _ (table definitions : List ℕ) where
     row-rising e zero h = rising-none
     row-rising e (suc n) h = rising-append (rowPairs table definitions e n) (pairIf table e (getD definitions n 0)) (row-rising e n (omega arith)) (if-rising e (getD definitions n 0)) before
       where
-        before : Before (rowPairs table definitions e n) (pairIf table e (getD definitions n 0))
+        before : AllPrecede (rowPairs table definitions e n) (pairIf table e (getD definitions n 0))
         before x y m i =
             let r = row-member e n x m in
             let q = if-member e (getD definitions n 0) y i in
@@ -111,7 +111,7 @@ module _ (table definitions : List ℕ) where
     marked-rising zero = rising-none
     marked-rising (suc n) = rising-append (markedPairs table definitions n) (rowPairs table definitions n (length definitions)) (marked-rising n) (row-rising n (length definitions) (omega arith)) before
       where
-        before : Before (markedPairs table definitions n) (rowPairs table definitions n (length definitions))
+        before : AllPrecede (markedPairs table definitions n) (rowPairs table definitions n (length definitions))
         before x y m i =
             let r = marked-member n x m in
             let q = row-member n (length definitions) y i in

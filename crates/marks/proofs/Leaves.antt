@@ -20,7 +20,7 @@ use Rattle.sets.specs.Bits.{bit}
 use Rattle.sets.proofs.Bits.{bit-and}
 use Rattle.sets.specs.Collecting.{Collects}
 use Rattle.sets.proofs.Collecting.{collected}
-use Rattle.rules.specs.Items.{element, string, none, Lookups}
+use Rattle.rules.specs.Items.{element, string, noAttributes, Lookups}
 use Rattle.rules.specs.Rules.{Match, WeakMatch, NotMatchBy, text-1, text-2, data-1, data-2}
 use Rattle.rules.specs.Rules as rule
 use Rattle.rules.specs.Job.{lookups}
@@ -28,7 +28,7 @@ use Rattle.tables.proofs.Booleans.{or-either, or-left, or-right, and-left, and-
 use Rattle.rules.proofs.Inversion.{One, step}
 use Rattle.rules.proofs.OneElement.{weak-string}
 use Rattle.rules.proofs.Passing.{restricted}
-use Rattle.rules.specs.Reach.{Part, of-attribute}
+use Rattle.rules.specs.Reach.{Subpattern, of-attribute}
 use Rattle.rules.proofs.RowPatterns.{row-makes}
 use Rattle.alone.specs.Alone.{entry}
 use Rattle.marks.specs.Given.{itemAt, pairEntry, Given}
@@ -45,7 +45,7 @@ module _ (L : Lookups) where
   NotMatch = NotMatchBy L (L .rows)
 
   -- a string alone matches a pattern that takes strings as Takes says; no element is taken
-  pub string-takes : {x : Pattern} → StringPattern x → (v : List ℕ) → Match L NotMatch none (string v ∷ []) x ↔ Takes L x (string v)
+  pub string-takes : {x : Pattern} → StringPattern x → (v : List ℕ) → Match L NotMatch noAttributes (string v ∷ []) x ↔ Takes L x (string v)
   string-takes of-text v = (λ d. tt, λ u. text-2 v text-1)
   string-takes (of-string e) v = rw e (λ d. d, λ d. d)
 
@@ -70,30 +70,30 @@ module _ {J : Tables} {alone nothing blank pairs items : List ℕ} {e attributes
   Leaf = LeafWord J e attributes (itemAt (J .strings) items texts) (length items)
 
   -- the weak matches of an attribute's value
-  value-fits : (q v : ℕ) → q < rowsOf s → v < instanceStrings (J .strings) → (valueFits alone nothing blank q v ≡ true) ↔ WeakMatch L Not none (string (textOf (J .strings) v) ∷ []) (patternOf s q)
+  value-fits : (q v : ℕ) → q < rowsOf s → v < instanceStrings (J .strings) → (valueFits alone nothing blank q v ≡ true) ↔ WeakMatch L Not noAttributes (string (textOf (J .strings) v) ∷ []) (patternOf s q)
   value-fits q v h l = (to, from)
     where
-      weakly : WeakMatch L Not none (string (textOf (J .strings) v) ∷ []) (patternOf s q)
-          ↔ (Match L Not none (string (textOf (J .strings) v) ∷ []) (patternOf s q) ⊎ ((whitespace (textOf (J .strings) v) ≡ true) × Match L Not none [] (patternOf s q)))
-      weakly = weak-string L Not none (patternOf s q) (textOf (J .strings) v)
+      weakly : WeakMatch L Not noAttributes (string (textOf (J .strings) v) ∷ []) (patternOf s q)
+          ↔ (Match L Not noAttributes (string (textOf (J .strings) v) ∷ []) (patternOf s q) ⊎ ((whitespace (textOf (J .strings) v) ≡ true) × Match L Not noAttributes [] (patternOf s q)))
+      weakly = weak-string L Not noAttributes (patternOf s q) (textOf (J .strings) v)
 
-      by-string : (eqb (entry alone q v) 1 ≡ true) ↔ Match L Not none (string (textOf (J .strings) v) ∷ []) (patternOf s q)
+      by-string : (eqb (entry alone q v) 1 ≡ true) ↔ Match L Not noAttributes (string (textOf (J .strings) v) ∷ []) (patternOf s q)
       by-string = entry-test (entry alone q v) (g .alone-right .strings t q v h l)
 
       is-blank : (eqb (getD blank v 0) 1 ≡ true) ↔ (whitespace (textOf (J .strings) v) ≡ true)
       is-blank = entry-test (getD blank v 0) (g .blank-right v l)
 
-      by-nothing : (eqb (getD nothing q 0) 1 ≡ true) ↔ Match L Not none [] (patternOf s q)
+      by-nothing : (eqb (getD nothing q 0) 1 ≡ true) ↔ Match L Not noAttributes [] (patternOf s q)
       by-nothing = entry-test (getD nothing q 0) (g .alone-right .empty t q h)
 
-      to : valueFits alone nothing blank q v ≡ true → WeakMatch L Not none (string (textOf (J .strings) v) ∷ []) (patternOf s q)
+      to : valueFits alone nothing blank q v ≡ true → WeakMatch L Not noAttributes (string (textOf (J .strings) v) ∷ []) (patternOf s q)
       to u =
           weakly .1
           (⊎-elim (λ i. inl (by-string .0 i))
           (λ i. inr (is-blank .0 (and-left (eqb (getD blank v 0) 1) (eqb (getD nothing q 0) 1) i), by-nothing .0 (and-right (eqb (getD blank v 0) 1) (eqb (getD nothing q 0) 1) i)))
           (or-either (eqb (entry alone q v) 1) (eqb (getD blank v 0) 1 && eqb (getD nothing q 0) 1) u))
 
-      from : WeakMatch L Not none (string (textOf (J .strings) v) ∷ []) (patternOf s q) → valueFits alone nothing blank q v ≡ true
+      from : WeakMatch L Not noAttributes (string (textOf (J .strings) v) ∷ []) (patternOf s q) → valueFits alone nothing blank q v ≡ true
       from w =
           ⊎-elim (λ d. or-left (eqb (getD blank v 0) 1 && eqb (getD nothing q 0) 1) (by-string .1 d))
           (λ d. or-right (eqb (entry alone q v) 1) (both-and (is-blank .1 (d .0)) (by-nothing .1 (d .1))))
@@ -136,7 +136,7 @@ module _ {J : Tables} {alone nothing blank pairs items : List ℕ} {e attributes
     }
       where
         below : bOf s p < rowsOf s
-        below = let l = restricted J (g .passes) .falls p (bOf s p) (subst (Part (bOf s p)) (sym (attribute-at s p f)) of-attribute) in omega arith
+        below = let l = restricted J (g .passes) .falls p (bOf s p) (subst (Subpattern (bOf s p)) (sym (attribute-at s p f)) of-attribute) in omega arith
 
         by-value : (x : ℕ) → x < attributes
             → ((hasName s t (aOf s p) (attributeRow e x) && valueFits alone nothing blank (bOf s p) (node.cOf t (attributeRow e x))) ≡ true) ↔ TakesAttribute L (aOf s p) (bOf s p) (attributeRow e x)

@@ -51,12 +51,12 @@ module _ (s : List ℕ) (p : ℕ) where
       go (no h) = let l = not-less h in let m = not-less (f l) in rw (le-leb 10 (kindOf s p) l, lt-leb (kindOf s p) 12 (omega arith))
 
   -- a oneOrMore has no child by its field b
-  no-second : kindOf s p ≡ 9 → {r : ℕ} → Child s p r → r ≡ aOf s p
+  no-second : kindOf s p ≡ 9 → {r : ℕ} → Child s r p → r ≡ aOf s p
   unfolding shapeOf
   no-second z (by-a n e) = sym e
   no-second z (by-b n e) = absurd (false≢true (rw z at n))
 
-  child-operand : connective (kindOf s p) ≡ true → {r : ℕ} → Child s p r → (r ≡ firstOperand s p) ⊎ (r ≡ secondOperand s p)
+  child-operand : connective (kindOf s p) ≡ true → {r : ℕ} → Child s r p → (r ≡ firstOperand s p) ⊎ (r ≡ secondOperand s p)
   child-operand c {r} d = go (ℕ-discrete (kindOf s p) 9) d
     where
       low : 9 ≤ kindOf s p
@@ -65,13 +65,13 @@ module _ (s : List ℕ) (p : ℕ) where
       high : kindOf s p ≤ 12
       high = leb-true (kindOf s p) 12 (and-right (leb 9 (kindOf s p)) (leb (kindOf s p) 12) c)
 
-      go : Dec (kindOf s p ≡ 9) → Child s p r → (r ≡ firstOperand s p) ⊎ (r ≡ secondOperand s p)
+      go : Dec (kindOf s p ≡ 9) → Child s r p → (r ≡ firstOperand s p) ⊎ (r ≡ secondOperand s p)
       go (yes z) d = inl (no-second z d ∙ sym (first-is low (let h = high in omega arith)))
       go (no z) (by-a n e) = inl (sym e ∙ sym (first-is low (let h = high in omega arith)))
       go (no z) (by-b n e) = inr (sym e ∙ sym (second-is (let h = low in omega arith) (let h = high in omega arith)))
 
 -- what occurs in p is p, or occurs in a child of it
-occurs-split : {s : List ℕ} {q p : ℕ} → Occurs s q p → (q ≡ p) ⊎ ((r : ℕ) × (connective (kindOf s p) ≡ true) × Child s p r × Occurs s q r)
+occurs-split : {s : List ℕ} {q p : ℕ} → Occurs s q p → (q ≡ p) ⊎ ((r : ℕ) × (connective (kindOf s p) ≡ true) × Child s r p × Occurs s q r)
 occurs-split itself = inl refl
 occurs-split (within {q = r} c d o) = inr (r, c, d, o)
 
@@ -130,11 +130,11 @@ module _ (J : Tables) (e attributes : ℕ) (it : ℕ → Item) (items : ℕ) whe
         → Stay marks₀ named₀ taken₀ single₀ marks named taken single × ((q : ℕ) → Occurs s q p → q ≢ p → Row marks named taken single q)
     operands-marked f g one two = (record { stays = λ q m. two .0 .stays q (one .0 .stays q m) }, λ q o n. at q n (occurs-split o))
       where
-        below : (q r : ℕ) → Child s p r → Occurs s q r → (r ≡ firstOperand s p) ⊎ (r ≡ secondOperand s p) → Row marks named taken single q
+        below : (q r : ℕ) → Child s r p → Occurs s q r → (r ≡ firstOperand s p) ⊎ (r ≡ secondOperand s p) → Row marks named taken single q
         below q r d o (inl i) = let k : r ≡ first = i ∙ sym f in two .0 .stays q (one .1 (subst (λ (x : ℕ). x < p) k (child-less d)) .rows q (subst (Occurs s q) k o))
         below q r d o (inr i) = let k : r ≡ second = i ∙ sym g in two .1 (subst (λ (x : ℕ). x < p) k (child-less d)) .rows q (subst (Occurs s q) k o)
 
-        at : (q : ℕ) → q ≢ p → (q ≡ p) ⊎ ((r : ℕ) × (connective (kindOf s p) ≡ true) × Child s p r × Occurs s q r) → Row marks named taken single q
+        at : (q : ℕ) → q ≢ p → (q ≡ p) ⊎ ((r : ℕ) × (connective (kindOf s p) ≡ true) × Child s r p × Occurs s q r) → Row marks named taken single q
         at q n (inl z) = absurd (n z)
         at q n (inr (r, c, d, o)) = below q r d o (child-operand s p c d)
 

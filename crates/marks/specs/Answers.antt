@@ -18,7 +18,7 @@ use Rattle.marks.specs.Given.{itemAt, Given}
 use Rattle.marks.specs.Marks.{LeafWord, AttributeWord, NamedWord, TakenWord, SingleWord, RowMarked, PatternMarked, StayMarked, Marking}
 
 -- as many attributes and items as there may be, and a word for row p in each table
-pub record Room (items marks named taken single : List ℕ) (attributes p : ℕ) : Type 0 where
+pub record RowRoom (items marks named taken single : List ℕ) (attributes p : ℕ) : Type 0 where
   pub few-attributes : attributes ≤ maxWidth
   pub few-items : length items ≤ maxWidth
   pub in-marks : p < length marks

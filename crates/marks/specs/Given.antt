@@ -53,6 +53,6 @@ module _ (s t alone nothing blank pairs items : List ℕ) (e attributes texts p 
     pub room-single : rowsOf s ≤ length single
 
   -- the pattern at row p is marked, for all strings for which the tables of the element are right
-  pub record Marks (marks₀ named₀ taken₀ single₀ marks named taken single : List ℕ) : Type 0 where
+  pub record MarksPattern (marks₀ named₀ taken₀ single₀ marks named taken single : List ℕ) : Type 0 where
     pub marking : (T : StringTable) → Given (tablesOf T s t) alone nothing blank pairs items e attributes texts
         → Marking (tablesOf T s t) e attributes (itemAt T items texts) (length items) marks₀ named₀ taken₀ single₀ marks named taken single p

@@ -11,7 +11,7 @@ use Rattle.schema.specs.Relations.{Occurs}
 use Rattle.schema.specs.Rows.{rowsOf}
 use Rattle.schema.specs.Views.{Pattern, attribute, patternOf}
 use Rattle.sets.specs.Bits.{bit}
-use Rattle.rules.specs.Items.{Item, element, string, Attributes, none, only, Lookups}
+use Rattle.rules.specs.Items.{Item, element, string, Attributes, noAttributes, only, Lookups}
 use Rattle.rules.specs.Rules.{Match, WeakMatch, NotMatchBy}
 use Rattle.rules.specs.Job.{lookups}
 use Rattle.rules.specs.Reach.{Role, strings, oneString, anAttribute, anElement, sharing, another, roleOf, Reaches, namesAttribute, takes, takesAny}
@@ -42,7 +42,7 @@ module _ (L : Lookups) where
   -- what one item must be for a pattern that takes items: text takes any string
   abbrev pub TakesBy : Pattern → Role → Item → Type 0
   TakesBy x strings y = IsString (λ s. Unit {0}) y
-  TakesBy x oneString y = IsString (λ s. Match L NotMatch none (string s ∷ []) x) y
+  TakesBy x oneString y = IsString (λ s. Match L NotMatch noAttributes (string s ∷ []) x) y
   TakesBy x (anAttribute nc) y = ⊥
   TakesBy x (anElement d) y = IsPaired d y
   TakesBy x sharing y = ⊥
@@ -54,7 +54,7 @@ module _ (L : Lookups) where
   -- the premises of (attribute) for instance row r
   pub record TakesAttribute (nc p r : ℕ) : Type 0 where
     pub named : L .inClass nc r ≡ true
-    pub valued : WeakMatch L NotMatch none (string (L .value r) ∷ []) (L .pattern p)
+    pub valued : WeakMatch L NotMatch noAttributes (string (L .value r) ∷ []) (L .pattern p)
 
 -- what the word of row p is in each of the four tables
 module _ (J : Tables) where

@@ -6,8 +6,8 @@ ghost use lib.ListN.{length, getD};
 ghost use Rattle.schema.specs.Rows.{kindOf, aOf, bOf};
 ghost use Rattle.instance.specs.Width.{maxWidth};
 ghost use Rattle.sets.specs.Collecting.{Collects};
-ghost use Rattle.marks.specs.Answers.{Room, LeafAnswer, NamedAnswer, TakenAnswer, SingleAnswer, RowAnswer, SmallerAnswer, OperandsAnswer, PatternAnswer, firstOperand, secondOperand};
-ghost use Rattle.marks.specs.Given.{Markable, Marks};
+ghost use Rattle.marks.specs.Answers.{RowRoom, LeafAnswer, NamedAnswer, TakenAnswer, SingleAnswer, RowAnswer, SmallerAnswer, OperandsAnswer, PatternAnswer, firstOperand, secondOperand};
+ghost use Rattle.marks.specs.Given.{Markable, MarksPattern};
 ghost use Rattle.marks.specs.Marks.{attributeRow};
 ghost use Rattle.marks.specs.Tests.{hasName, valueFits, stringAlone, elementPaired, elementNamed, attributeNamed, attributeFits, joinedBy};
 
@@ -260,7 +260,7 @@ fn mark_row(
     taken: &mut [u64],
     single: &mut [u64],
 )
-    requires { ⌜ Room (now items) (now marks) (now named) (now taken) (now single) attributes p ⌝ }
+    requires { ⌜ RowRoom (now items) (now marks) (now named) (now taken) (now single) attributes p ⌝ }
     ensures { λ _. ⌜ RowAnswer (now (schema .entry)) (now (instance .entry)) (now (alone .entry)) (now (nothing .entry)) (now (blank .entry)) (now (pairs .entry)) (now (items .entry)) e attributes texts (now (marks .entry)) (now (named .entry)) (now (taken .entry)) (now (single .entry)) (now (marks .exit)) (now (named .exit)) (now (taken .exit)) (now (single .exit)) p ⌝ }
 {
     let leaf = leaf_word(
@@ -324,7 +324,7 @@ fn mark_smaller(
     taken: &mut [u64],
     single: &mut [u64],
 )
-    requires { ⌜ Room (now items) (now marks) (now named) (now taken) (now single) attributes p ⌝ }
+    requires { ⌜ RowRoom (now items) (now marks) (now named) (now taken) (now single) attributes p ⌝ }
     ensures { λ _. ⌜ SmallerAnswer (now (schema .entry)) (now (instance .entry)) (now (alone .entry)) (now (nothing .entry)) (now (blank .entry)) (now (pairs .entry)) (now (items .entry)) e attributes texts (now (marks .entry)) (now (named .entry)) (now (taken .entry)) (now (single .entry)) (now (marks .exit)) (now (named .exit)) (now (taken .exit)) (now (single .exit)) q p ⌝ }
 {
     if q < p {
@@ -366,7 +366,7 @@ fn mark_operands(
     taken: &mut [u64],
     single: &mut [u64],
 )
-    requires { ⌜ Room (now items) (now marks) (now named) (now taken) (now single) attributes p ⌝ }
+    requires { ⌜ RowRoom (now items) (now marks) (now named) (now taken) (now single) attributes p ⌝ }
     ensures { λ _. ⌜ OperandsAnswer (now (schema .entry)) (now (instance .entry)) (now (alone .entry)) (now (nothing .entry)) (now (blank .entry)) (now (pairs .entry)) (now (items .entry)) e attributes texts (now (marks .entry)) (now (named .entry)) (now (taken .entry)) (now (single .entry)) (now (marks .exit)) (now (named .exit)) (now (taken .exit)) (now (single .exit)) p ⌝ }
 {
     let first = first_operand(schema, p);
@@ -427,7 +427,7 @@ fn mark_pattern(
     taken: &mut [u64],
     single: &mut [u64],
 )
-    requires { ⌜ Room (now items) (now marks) (now named) (now taken) (now single) attributes p ⌝ }
+    requires { ⌜ RowRoom (now items) (now marks) (now named) (now taken) (now single) attributes p ⌝ }
     ensures { λ _. ⌜ PatternAnswer (now (schema .entry)) (now (instance .entry)) (now (alone .entry)) (now (nothing .entry)) (now (blank .entry)) (now (pairs .entry)) (now (items .entry)) e attributes texts (now (marks .entry)) (now (named .entry)) (now (taken .entry)) (now (single .entry)) (now (marks .exit)) (now (named .exit)) (now (taken .exit)) (now (single .exit)) p ⌝ }
 {
     mark_operands(
@@ -486,7 +486,7 @@ pub fn mark(
     single: &mut [u64],
 )
     requires { ⌜ Markable (now schema) (now instance) (now alone) (now nothing) (now blank) (now pairs) (now items) e attributes texts p (now marks) (now named) (now taken) (now single) ⌝ }
-    ensures { λ _. ⌜ Marks (now (schema .entry)) (now (instance .entry)) (now (alone .entry)) (now (nothing .entry)) (now (blank .entry)) (now (pairs .entry)) (now (items .entry)) e attributes texts p (now (marks .entry)) (now (named .entry)) (now (taken .entry)) (now (single .entry)) (now (marks .exit)) (now (named .exit)) (now (taken .exit)) (now (single .exit)) ⌝ }
+    ensures { λ _. ⌜ MarksPattern (now (schema .entry)) (now (instance .entry)) (now (alone .entry)) (now (nothing .entry)) (now (blank .entry)) (now (pairs .entry)) (now (items .entry)) e attributes texts p (now (marks .entry)) (now (named .entry)) (now (taken .entry)) (now (single .entry)) (now (marks .exit)) (now (named .exit)) (now (taken .exit)) (now (single .exit)) ⌝ }
 {
     mark_pattern(
         schema,

@@ -31,7 +31,7 @@ use Rattle.listing.specs.declared.Listed.{Listed}
 use Rattle.listing.specs.declared.Listed.the-variants as listed
 use Rattle.listing.proofs.Order.{marked-rising, marked-lists}
 use Rattle.validity.proofs.Root.{root-element}
-use Rattle.matches.specs.MatchList.{MatchList, Written, Answers}
+use Rattle.matches.specs.MatchList.{MatchList, ListWritten, ListAnswer}
 use Rattle.matches.specs.declared.Answer.the-variants as answer
 
 pairs-short : {n : ℕ} → listed.Pairs n ≡ listed.TooShort → ⊥
@@ -105,7 +105,7 @@ module _ {J : Tables} (pass : TablesPass J) where
     all : MatchList J marked
     all = is-match-list right definitions long
 
-    pub too-short : r ≡ listed.TooShort → Answers J room list answer.TooShort
+    pub too-short : r ≡ listed.TooShort → ListAnswer J room list answer.TooShort
     too-short e = record { pairs = marked; all = all; says = go lists }
       where
         go : ListsPairs table (take n rows) (nodesOf t) room list r → (room < length marked * 2) × (list ≡ zeros room)
@@ -113,15 +113,15 @@ module _ {J : Tables} (pass : TablesPass J) where
         go (short l q z) = (l, z)
 
     module _ {number : ℕ} (e : r ≡ listed.Pairs number) where
-      written : (valid : Bool) → Decides (Valid J) valid → Written J marked room list number valid
+      written : (valid : Bool) → Decides (Valid J) valid → ListWritten J marked room list number valid
       written valid d = go lists
         where
-          go : ListsPairs table (take n rows) (nodesOf t) room list r → Written J marked room list number valid
+          go : ListsPairs table (take n rows) (nodesOf t) room list r → ListWritten J marked room list number valid
           go (whole f q w) = record { fit = f; words = w; counted = pairs-number (sym e ∙ q); rooted = decides-same valid (root-paired all .0) (root-paired all .1) d; derived = d }
           go (short l q z) = absurd (pairs-short (sym e ∙ q))
 
-      pub is-valid : Decides (Valid J) true → Answers J room list (answer.Valid number)
+      pub is-valid : Decides (Valid J) true → ListAnswer J room list (answer.Valid number)
       is-valid d = record { pairs = marked; all = all; says = written true d }
 
-      pub not-valid : Decides (Valid J) false → Answers J room list (answer.NotValid number)
+      pub not-valid : Decides (Valid J) false → ListAnswer J room list (answer.NotValid number)
       not-valid d = record { pairs = marked; all = all; says = written false d }

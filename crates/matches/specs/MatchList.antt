@@ -19,7 +19,7 @@ pub record MatchList (J : Tables) (l : List (ℕ × ℕ)) : Type 0 where
   pub lists : Lists (Pair J) l
 
 -- the match list l in a list of so many words, with the number of its pairs and valid or not
-pub record Written (J : Tables) (l : List (ℕ × ℕ)) (room : ℕ) (list : List ℕ) (number : ℕ) (valid : Bool) : Type 0 where
+pub record ListWritten (J : Tables) (l : List (ℕ × ℕ)) (room : ℕ) (list : List ℕ) (number : ℕ) (valid : Bool) : Type 0 where
   pub fit : length l * 2 ≤ room
   -- the two words of each pair in order, then zeros
   pub words : list ≡ laid room (pairWords l)
@@ -30,12 +30,12 @@ pub record Written (J : Tables) (l : List (ℕ × ℕ)) (room : ℕ) (list : Lis
 
 -- what each answer says of the match list l and of the list of so many words
 abbrev pub Says : (J : Tables) (l : List (ℕ × ℕ)) (room : ℕ) (list : List ℕ) → Answer → Type 0
-Says J l room list (Valid number) = Written J l room list number true
-Says J l room list (NotValid number) = Written J l room list number false
+Says J l room list (Valid number) = ListWritten J l room list number true
+Says J l room list (NotValid number) = ListWritten J l room list number false
 Says J l room list TooShort = (room < length l * 2) × (list ≡ zeros room)
 
 -- the whole promise: there is a match list, and the answer is told of it
-pub record Answers (J : Tables) (room : ℕ) (list : List ℕ) (r : Answer) : Type 0 where
+pub record ListAnswer (J : Tables) (room : ℕ) (list : List ℕ) (r : Answer) : Type 0 where
   pub pairs : List (ℕ × ℕ)
   pub all : MatchList J pairs
   pub says : Says J pairs room list r

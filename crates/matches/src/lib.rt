@@ -3,7 +3,7 @@ use listing::Listed;
 ghost use lib.ListN.{length};
 ghost use Rattle.tables.specs.Tables.{stringTable, tablesOf};
 ghost use Rattle.pairs.specs.Pairs.{Pairable, PairsRight};
-ghost use Rattle.matches.specs.MatchList.{Answers};
+ghost use Rattle.matches.specs.MatchList.{ListAnswer};
 
 // Whether the instance is valid, with the number of pairs of the match list; or that the lent list is too short for them.
 pub enum Answer {
@@ -22,7 +22,7 @@ pub fn match_pairs(
     list: &mut [u32],
 ) -> Answer
     requires { ⌜ Pairable (tablesOf (stringTable (now bytes) (now ends)) (now schema) (now instance)) (now pairs) ⌝ }
-    ensures { λ r. ⌜ Answers (tablesOf (stringTable (now (bytes .entry)) (now (ends .entry))) (now (schema .entry)) (now (instance .entry))) (length (now (list .entry))) (now (list .exit)) r ⌝ }
+    ensures { λ r. ⌜ ListAnswer (tablesOf (stringTable (now (bytes .entry)) (now (ends .entry))) (now (schema .entry)) (now (instance .entry))) (length (now (list .entry))) (now (list .exit)) r ⌝ }
     ensures filled { λ _. ⌜ PairsRight (tablesOf (stringTable (now (bytes .entry)) (now (ends .entry))) (now (schema .entry)) (now (instance .entry))) (now (pairs .exit)) ⌝ }
 {
     pairs::pair_table(bytes, ends, schema, instance, pairs);

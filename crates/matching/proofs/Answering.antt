@@ -17,15 +17,15 @@ use Rattle.schema.specs.Rows.{kindOf, aOf, bOf}
 use Rattle.schema.proofs.Fields.{is-data, is-value}
 use Rattle.schema.specs.Views.{Pattern, notAllowed, noPattern, patternBy, patternOf}
 use Rattle.relations.specs.Relations.{Or, And, Then}
-use Rattle.relations.specs.Words.{Holds, Is, Empty, Gap, Single, Up, front, next}
+use Rattle.relations.specs.Words.{WordsRelate, Is, Empty, Gap, Single, Up, front, next}
 use Rattle.sets.specs.Bits.{positions, bit}
 use Rattle.sets.proofs.Members.{and-has, none-has}
 use Rattle.tables.proofs.Booleans.{and-left, and-right, is-false}
 use Rattle.rules.proofs.Passing.{restricted}
-use Rattle.rules.specs.Reach.{oneString, roleOf, Operand, Part, operand, repeated, choice-first, choice-second, group-first, group-second, interleave-first, interleave-second}
+use Rattle.rules.specs.Reach.{oneString, roleOf, Operand, Subpattern, operand, repeated, choice-first, choice-second, group-first, group-second, interleave-first, interleave-second}
 use Rattle.rules.proofs.RowPatterns.{Makes, row-makes, makes-empty, makes-notAllowed, makes-text, makes-data, makes-except, makes-value, makes-attribute, makes-ref, makes-oneOrMore, makes-choice, makes-group, makes-interleave, makes-none}
-use Rattle.matching.specs.Setting.{Setting, tablesIn, Asked, Covered, Relatable, Answers}
-use Rattle.matching.specs.Parts.{Where, OneIn, Repeats, AnswersLeaf, Shared, Operands}
+use Rattle.matching.specs.Setting.{Setting, tablesIn, Asked, Covered, Relatable, HoldsRelated}
+use Rattle.matching.specs.Parts.{Where, OneIn, Repetition, HoldsLeaf, Shared, Operands}
 use Rattle.matching.proofs.Shares.{asked-part, operand-covered}
 use Rattle.matching.proofs.Conditions.{front-put, next-put}
 use Rattle.matching.proofs.Leaves.{related-empty, related-text, related-string, related-ref, related-attribute, related-nothing}
@@ -72,11 +72,11 @@ module _ (s : List ℕ) (p : ℕ) where
   -- ---- a row without operands, where kind and mark are what was read
 
   module _ (marks : List ℕ) {w : List ℕ} {m a k κ mark : ℕ} (is-kind : κ ≡ kindOf s p) (is-mark : mark ≡ getD marks p 0) where
-    pub answers-empty : κ ≡ 1 → Is w (Where (a ≡ 0) (Gap m k)) → AnswersLeaf s marks m a k p w
+    pub answers-empty : κ ≡ 1 → Is w (Where (a ≡ 0) (Gap m k)) → HoldsLeaf s marks m a k p w
     unfolding patternBy
     answers-empty e is c named taken single S asked covered = related-empty S m asked covered w (by-kind (sym is-kind ∙ e)) is
 
-    pub answers-text : k < 2 ^ 64 → mark < 2 ^ 64 → κ ≡ 3 → Is w (Where (a ≡ 0) (Gap m (bitAnd k (2 ^ 64 - 1 - mark)))) → AnswersLeaf s marks m a k p w
+    pub answers-text : k < 2 ^ 64 → mark < 2 ^ 64 → κ ≡ 3 → Is w (Where (a ≡ 0) (Gap m (bitAnd k (2 ^ 64 - 1 - mark)))) → HoldsLeaf s marks m a k p w
     unfolding patternBy
     answers-text hk hm e is c named taken single S asked covered =
         related-text S m asked covered w hk (subst (λ (n : ℕ). n < 2 ^ 64) is-mark hm) (by-kind (sym is-kind ∙ e)) (subst (λ (n : ℕ). Is w (Where (a ≡ 0) (Gap m (bitAnd k (2 ^ 64 - 1 - n))))) is-mark is)
@@ -86,25 +86,25 @@ module _ (s : List ℕ) (p : ℕ) where
       marked = subst (λ (n : ℕ). Is w (Where (a ≡ 0) (Single m k n))) is-mark is
 
       -- data and value
-      answers-string : 4 ≤ κ → κ < 6 → AnswersLeaf s marks m a k p w
+      answers-string : 4 ≤ κ → κ < 6 → HoldsLeaf s marks m a k p w
       answers-string l u c named taken single S asked covered =
           related-string S m asked covered w (string-role (subst (λ (n : ℕ). Makes n (aOf s p) (bOf s p) (patternOf s p)) (sym is-kind) (row-makes s p refl)) l u) marked
 
-      answers-ref : κ ≡ 8 → AnswersLeaf s marks m a k p w
+      answers-ref : κ ≡ 8 → HoldsLeaf s marks m a k p w
       unfolding patternBy
       answers-ref e c named taken single S asked covered = related-ref S m asked covered w (by-kind (sym is-kind ∙ e)) marked
 
       -- data, value and ref take one item
-      pub answers-item : (κ ≡ 8) ⊎ ((4 ≤ κ) × (κ < 6)) → AnswersLeaf s marks m a k p w
+      pub answers-item : (κ ≡ 8) ⊎ ((4 ≤ κ) × (κ < 6)) → HoldsLeaf s marks m a k p w
       answers-item (inl e) = answers-ref e
       answers-item (inr (l, u)) = answers-string l u
 
-    pub answers-attribute : κ ≡ 7 → Is w (Where (OneIn a mark) (Gap m k)) → AnswersLeaf s marks m a k p w
+    pub answers-attribute : κ ≡ 7 → Is w (Where (OneIn a mark) (Gap m k)) → HoldsLeaf s marks m a k p w
     unfolding patternBy
     answers-attribute e is c named taken single S asked covered =
         related-attribute S m asked covered w (by-kind (sym is-kind ∙ e)) (subst (λ (n : ℕ). Is w (Where (OneIn a n) (Gap m k))) is-mark is)
 
-    pub answers-nothing : κ ≢ 1 → κ ≢ 3 → κ ≢ 4 → κ ≢ 5 → κ ≢ 8 → κ ≢ 7 → Is w Empty → AnswersLeaf s marks m a k p w
+    pub answers-nothing : κ ≢ 1 → κ ≢ 3 → κ ≢ 4 → κ ≢ 5 → κ ≢ 8 → κ ≢ 7 → Is w Empty → HoldsLeaf s marks m a k p w
     answers-nothing n₁ n₃ n₄ n₅ n₈ n₇ is c named taken single S asked covered =
         related-nothing S m asked covered w (nothing-made (subst (λ (n : ℕ). Makes n (aOf s p) (bOf s p) (patternOf s p)) (sym is-kind) (row-makes s p refl)) n₁ n₃ n₄ n₅ n₈ n₇ (subst (λ (n : ℕ). connective n ≡ false) (sym is-kind) c)) is
 
@@ -112,7 +112,7 @@ module _ (s : List ℕ) (p : ℕ) where
 
   -- an operand is a smaller row
   falls : Setting s → {q : ℕ} {x : Pattern} → patternOf s p ≡ x → Operand q x → q < p
-  falls S {q} e i = restricted (tablesIn S) (S .passes) .falls p q (subst (Part q) (sym e) (operand i))
+  falls S {q} e i = restricted (tablesIn S) (S .passes) .falls p q (subst (Subpattern q) (sym e) (operand i))
 
   -- what was read of a table for the first operand
   read-at : (table : List ℕ) {q n : ℕ} → q ≡ aOf s p → n ≡ getD table q 0 → n ≡ getD table (aOf s p) 0
@@ -120,7 +120,7 @@ module _ (s : List ℕ) (p : ℕ) where
 
   module _ {marks named taken single w : List ℕ} {m a k : ℕ} where
     pub answers-oneOrMore : {w₁ : List ℕ} {q alone : ℕ} → a < 2 ^ 64 → kindOf s p ≡ kind.oneOrMore → q ≡ aOf s p → alone ≡ getD single q 0
-        → Answers s marks named taken single m 0 k q w₁ → Is w (Repeats m a k alone (Holds w₁)) → Answers s marks named taken single m a k p w
+        → HoldsRelated s marks named taken single m 0 k q w₁ → Is w (Repetition m a k alone (WordsRelate w₁)) → HoldsRelated s marks named taken single m a k p w
     unfolding patternBy
     answers-oneOrMore {w₁} {q} {alone} ha e f g first is S asked covered =
         let below = operand-covered S covered (by-kind e) repeated in
@@ -128,7 +128,7 @@ module _ (s : List ℕ) (p : ℕ) where
         (rw f at (first S (asked-part S asked (λ x h. absurd (none-has x h)) (λ x h. h)) (rw f below)))
         (rw (read-at single f g) at is)
 
-    pub answers-choice : {v : List ℕ} → kindOf s p ≡ kind.choice → Operands s marks named taken single m p a k a k v → Is w (Or (Holds (front m v)) (Holds (next m v))) → Answers s marks named taken single m a k p w
+    pub answers-choice : {v : List ℕ} → kindOf s p ≡ kind.choice → Operands s marks named taken single m p a k a k v → Is w (Or (WordsRelate (front m v)) (WordsRelate (next m v))) → HoldsRelated s marks named taken single m a k p w
     unfolding patternBy
     answers-choice e both is S asked covered =
         let u₁ = operand-covered S covered (by-kind e) choice-first in
@@ -137,8 +137,8 @@ module _ (s : List ℕ) (p : ℕ) where
 
     -- q, n and t are what was read: the first operand, and its words
     module _ {v : List ℕ} {q n : ℕ} (ha : a < 2 ^ 64) (hn : n < 2 ^ 64) (f : q ≡ aOf s p) (g : n ≡ getD named q 0) where
-      pub answers-group : kindOf s p ≡ kind.group → Operands s marks named taken single m p (bitAnd a n) k (bitAnd a (2 ^ 64 - 1 - n)) k v → Is w (Then (Holds (front m v)) (Holds (next m v)))
-          → Answers s marks named taken single m a k p w
+      pub answers-group : kindOf s p ≡ kind.group → Operands s marks named taken single m p (bitAnd a n) k (bitAnd a (2 ^ 64 - 1 - n)) k v → Is w (Then (WordsRelate (front m v)) (WordsRelate (next m v)))
+          → HoldsRelated s marks named taken single m a k p w
       unfolding patternBy
       answers-group e both is S asked covered =
           let u₁ = operand-covered S covered (by-kind e) group-first in
@@ -149,8 +149,8 @@ module _ (s : List ℕ) (p : ℕ) where
           related-group S m asked p (aOf s p) (bOf s p) u₁ ha (rw is-named at hn) (by-kind e) (rw is-named at x) (rw is-named at y) is
 
       pub answers-interleave : {t : ℕ} → k < 2 ^ 64 → t < 2 ^ 64 → t ≡ getD taken q 0 → kindOf s p ≡ kind.interleave
-          → Operands s marks named taken single m p (bitAnd a n) (bitAnd k t) (bitAnd a (2 ^ 64 - 1 - n)) (bitAnd k (2 ^ 64 - 1 - t)) v → Is w (And (Holds (front m v)) (Holds (next m v)))
-          → Answers s marks named taken single m a k p w
+          → Operands s marks named taken single m p (bitAnd a n) (bitAnd k t) (bitAnd a (2 ^ 64 - 1 - n)) (bitAnd k (2 ^ 64 - 1 - t)) v → Is w (And (WordsRelate (front m v)) (WordsRelate (next m v)))
+          → HoldsRelated s marks named taken single m a k p w
       unfolding patternBy
       answers-interleave {t} hk ht r e both is S asked covered =
           let u₁ = operand-covered S covered (by-kind e) interleave-first in
@@ -211,7 +211,7 @@ module _ (s : List ℕ) (p : ℕ) where
           record { setting = r .setting; asked = asked-none; covered = covered-operand; few = r .few; room = omega arith }
 
       -- its relation goes up
-      pub repeated-up : {w : List ℕ} → Answers s marks named taken single m 0 k q w → Up (Holds w)
+      pub repeated-up : {w : List ℕ} → HoldsRelated s marks named taken single m 0 k q w → Up (WordsRelate w)
       repeated-up first i j h = first (r .setting) asked-none covered-operand .sound i j h .1 .0
 
   -- ---- the operands themselves: the second is related in the part of the words from 64 on, and p₁ and p₂ are what was read
@@ -231,7 +231,7 @@ module _ (s : List ℕ) (p : ℕ) where
 
   module _ {marks named taken single : List ℕ} {m a₁ k₁ a₂ k₂ p₁ p₂ : ℕ} where
     pub operands-related : m ≤ positions → (n : ℕ) (v u : List ℕ) → positions ≤ length v → m ≤ length u → p₁ ≡ aOf s p → p₂ ≡ bOf s p
-        → Answers s marks named taken single m a₁ k₁ p₁ (front m v) → Answers s marks named taken single m a₂ k₂ p₂ (front m u) → Operands s marks named taken single m p a₁ k₁ a₂ k₂ (putMid 64 n v u)
+        → HoldsRelated s marks named taken single m a₁ k₁ p₁ (front m v) → HoldsRelated s marks named taken single m a₂ k₂ p₂ (front m u) → Operands s marks named taken single m p a₁ k₁ a₂ k₂ (putMid 64 n v u)
     operands-related few n v u hv hu e f first second = record {
       first = rw (front-put few n v u hv) (rw e at first);
       second = rw (next-put few n v u hv hu) (rw f at second);

@@ -12,11 +12,11 @@ use lib.Seq.{drop-at, take-append-le, take-take, length-take-le}
 use borrow.Rule.Slice.PartMut.{putMid, postOf, take-put}
 use Rattle.sets.specs.Bits.{positions, bit}
 use Rattle.relations.specs.Relations.{Relation, Or, Plus}
-use Rattle.relations.specs.Words.{Holds, Is, Empty, Gap, front, next}
+use Rattle.relations.specs.Words.{WordsRelate, Is, Empty, Gap, front, next}
 use Rattle.sets.proofs.Bits.{subset-test}
 use Rattle.sets.proofs.Members.{none-has}
 use Rattle.sets.proofs.Ones.{one-member}
-use Rattle.matching.specs.Parts.{Where, OneIn, Within, Repeats}
+use Rattle.matching.specs.Parts.{Where, OneIn, Subset, Repetition}
 
 -- ---- a condition that holds, and one that fails
 
@@ -50,21 +50,21 @@ module _ {m : ℕ} (few : m ≤ positions) (n : ℕ) (v u : List ℕ) (room : po
 -- ---- repetitions
 
 module _ (m a k alone : ℕ) (R : Relation) (ha : a < 2 ^ 64) (hl : alone < 2 ^ 64) where
-  within : bitAnd a (2 ^ 64 - 1 - alone) ≡ 0 → Within a alone
+  within : bitAnd a (2 ^ 64 - 1 - alone) ≡ 0 → Subset a alone
   within z = subset-test 64 a alone ha hl .0 z
 
-  pub repeats-none : {w : List ℕ} → ¬ (bitAnd a (2 ^ 64 - 1 - alone) ≡ 0) → Is w Empty → Is w (Repeats m a k alone R)
+  pub repeats-none : {w : List ℕ} → ¬ (bitAnd a (2 ^ 64 - 1 - alone) ≡ 0) → Is w Empty → Is w (Repetition m a k alone R)
   repeats-none n is = where-fails (λ h. n (subset-test 64 a alone ha hl .1 h)) is
 
-  pub repeats-items : {w : List ℕ} → a ≡ 0 → Is w (Plus R) → Is w (Repeats m a k alone R)
+  pub repeats-items : {w : List ℕ} → a ≡ 0 → Is w (Plus R) → Is w (Repetition m a k alone R)
   repeats-items z is =
       where-holds (λ x h. absurd (none-has x (subst (λ (n : ℕ). bit n x ≡ true) z h)))
       (record { sound = λ i j e. inl (is .sound i j e); complete = λ i j r. elim r [ inl q ↦ is .complete i j q | inr g ↦ absurd (let l = g .0 in omega arith) ] })
 
   pub repeats-beside : m ≤ positions → (n : ℕ) (v u : List ℕ) {w : List ℕ} → positions ≤ length v → m ≤ length u → bitAnd a (2 ^ 64 - 1 - alone) ≡ 0 → 0 < a
-      → Is (front m v) (Plus R) → Is (front m u) (Gap m k) → Is w (Or (Holds (front m (putMid 64 n v u))) (Holds (next m (putMid 64 n v u)))) → Is w (Repeats m a k alone R)
+      → Is (front m v) (Plus R) → Is (front m u) (Gap m k) → Is w (Or (WordsRelate (front m (putMid 64 n v u))) (WordsRelate (next m (putMid 64 n v u)))) → Is w (Repetition m a k alone R)
   repeats-beside few n v u {w} hv hu z l is₁ is₂ is =
-      let both : Is w (Or (Holds (front m v)) (Holds (front m u))) = rw (front-put few n v u hv, next-put few n v u hv hu) at is in
+      let both : Is w (Or (WordsRelate (front m v)) (WordsRelate (front m u))) = rw (front-put few n v u hv, next-put few n v u hv hu) at is in
       where-holds (within z)
       (record {
         sound = λ i j e. ⊎-map (is₁ .sound i j) (λ g. (l, is₂ .sound i j g)) (both .sound i j e);

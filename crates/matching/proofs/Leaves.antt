@@ -16,7 +16,7 @@ use Rattle.relations.specs.Relations.{Relation}
 use Rattle.relations.specs.Words.{Is, Empty, Gap, Single}
 use Rattle.relations.proofs.Words.{is-map}
 use Rattle.sets.proofs.Bits.{bit-without}
-use Rattle.rules.specs.Items.{Item, element, string, Attributes, none, only, Lookups}
+use Rattle.rules.specs.Items.{Item, element, string, Attributes, noAttributes, only, Lookups}
 use Rattle.rules.specs.Rules.{Match, NotMatchBy}
 use Rattle.rules.specs.Job.{lookups}
 use Rattle.tables.proofs.Booleans.{and-left, and-right, is-false}
@@ -166,7 +166,7 @@ module _ {s marks named taken single : List ℕ} (S : Setting s) (m : ℕ) {a k 
 
   pub related-string : roleOf (patternOf s p) ≡ oneString → Is w (Where (a ≡ 0) (Single m k mark)) → Is w (Related S m a k p)
   related-string e =
-      let P : List ℕ → Type 0 = (λ v. Match L N none (string v ∷ []) (patternOf s p)) in
+      let P : List ℕ → Type 0 = (λ v. Match L N noAttributes (string v ∷ []) (patternOf s p)) in
       one-item (One P) (IsString L P) (one-string L P) (λ x h. rw e at (takes-at (ap itemBy e) x h)) (λ i j. span-string L N A (S .it) K p i j e)
 
   pub related-ref : {d : ℕ} → patternOf s p ≡ ref d → Is w (Where (a ≡ 0) (Single m k mark)) → Is w (Related S m a k p)

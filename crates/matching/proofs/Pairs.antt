@@ -11,7 +11,7 @@ use Rattle.schema.specs.Rows.{rowsOf}
 use Rattle.schema.specs.Views.{choice, group, interleave, patternOf}
 use Rattle.sets.specs.Bits.{bit}
 use Rattle.relations.specs.Relations.{Relation, Or, And, Then}
-use Rattle.relations.specs.Words.{Holds, Is}
+use Rattle.relations.specs.Words.{WordsRelate, Is}
 use Rattle.relations.proofs.Words.{is-map}
 use Rattle.rules.specs.Items.{Attributes, Lookups}
 use Rattle.rules.specs.Rules.{NotMatchBy}
@@ -29,15 +29,15 @@ use Rattle.matching.proofs.Shares.{bits-both, bits-without, numberOf, h
 
 -- words that hold the relations that a relation is made of
 module _ {w w₁ w₂ : List ℕ} {R R₁ R₂ : Relation} (is₁ : Is w₁ R₁) (is₂ : Is w₂ R₂) where
-  is-or : Is w (Or (Holds w₁) (Holds w₂)) → ((i j : ℕ) → Or R₁ R₂ i j ↔ R i j) → Is w R
+  is-or : Is w (Or (WordsRelate w₁) (WordsRelate w₂)) → ((i j : ℕ) → Or R₁ R₂ i j ↔ R i j) → Is w R
   is-or is same =
       is-map (is-map is (λ i j. (⊎-map (is₁ .sound i j) (is₂ .sound i j), ⊎-map (is₁ .complete i j) (is₂ .complete i j)))) same
 
-  is-and : Is w (And (Holds w₁) (Holds w₂)) → ((i j : ℕ) → And R₁ R₂ i j ↔ R i j) → Is w R
+  is-and : Is w (And (WordsRelate w₁) (WordsRelate w₂)) → ((i j : ℕ) → And R₁ R₂ i j ↔ R i j) → Is w R
   is-and is same =
       is-map (is-map is (λ i j. (λ b. (is₁ .sound i j (b .0), is₂ .sound i j (b .1)), λ b. (is₁ .complete i j (b .0), is₂ .complete i j (b .1))))) same
 
-  is-then : Is w (Then (Holds w₁) (Holds w₂)) → ((i j : ℕ) → Then R₁ R₂ i j ↔ R i j) → Is w R
+  is-then : Is w (Then (WordsRelate w₁) (WordsRelate w₂)) → ((i j : ℕ) → Then R₁ R₂ i j ↔ R i j) → Is w R
   is-then is same =
       is-map (is-map is (λ i j. (λ b. (b .0, is₁ .sound i (b .0) (b .1), is₂ .sound (b .0) j (b .2)), λ b. (b .0, is₁ .complete i (b .0) (b .1), is₂ .complete (b .0) j (b .2))))) same
 
@@ -54,7 +54,7 @@ module _ {s : List ℕ} (S : Setting s) (m : ℕ) {a k : ℕ} (asked : Asked S a
   R : Restricted L
   R = restricted (tablesIn S) (S .passes)
 
-  pub related-choice : {w w₁ w₂ : List ℕ} → patternOf s p ≡ choice p₁ p₂ → Is w₁ (Related S m a k p₁) → Is w₂ (Related S m a k p₂) → Is w (Or (Holds w₁) (Holds w₂)) → Is w (Related S m a k p)
+  pub related-choice : {w w₁ w₂ : List ℕ} → patternOf s p ≡ choice p₁ p₂ → Is w₁ (Related S m a k p₁) → Is w₂ (Related S m a k p₂) → Is w (Or (WordsRelate w₁) (WordsRelate w₂)) → Is w (Related S m a k p)
   related-choice e is₁ is₂ is = is-or is₁ is₂ is (λ i j. (to i j, from i j))
     where
       to : (i j : ℕ) → Or (Related S m a k p₁) (Related S m a k p₂) i j → Related S m a k p i j
@@ -93,7 +93,7 @@ module _ {s : List ℕ} (S : Setting s) (m : ℕ) {a k : ℕ} (asked : Asked S a
       second K l i j e = rw (attributes-without (S .element) a n ha hn, e) ((λ r. r), λ r. r)
 
       pub related-group : {w w₁ w₂ : List ℕ} → patternOf s p ≡ group p₁ p₂ → Is w₁ (Related S m (bitAnd a n) k p₁) → Is w₂ (Related S m (bitAnd a (2 ^ 64 - 1 - n)) k p₂)
-          → Is w (Then (Holds w₁) (Holds w₂)) → Is w (Related S m a k p)
+          → Is w (Then (WordsRelate w₁) (WordsRelate w₂)) → Is w (Related S m a k p)
       related-group e is₁ is₂ is = is-then is₁ is₂ is (λ i j. (to i j, from i j))
         where
           to : (i j : ℕ) → Then (Related S m (bitAnd a n) k p₁) (Related S m (bitAnd a (2 ^ 64 - 1 - n)) k p₂) i j → Related S m a k p i j
@@ -111,7 +111,7 @@ module _ {s : List ℕ} (S : Setting s) (m : ℕ) {a k : ℕ} (asked : Asked S a
 
       pub related-interleave : {w w₁ w₂ : List ℕ} → k < 2 ^ 64 → t < 2 ^ 64 → patternOf s p ≡ interleave p₁ p₂
           → Is w₁ (Related S m (bitAnd a n) (bitAnd k t) p₁) → Is w₂ (Related S m (bitAnd a (2 ^ 64 - 1 - n)) (bitAnd k (2 ^ 64 - 1 - t)) p₂)
-          → Is w (And (Holds w₁) (Holds w₂)) → Is w (Related S m a k p)
+          → Is w (And (WordsRelate w₁) (WordsRelate w₂)) → Is w (Related S m a k p)
       related-interleave hk ht e is₁ is₂ is = is-and is₁ is₂ is (λ i j. (to i j, from i j))
         where
           K₁ : bit (bitAnd k t) ≡ bit k ∩ bit t

@@ -11,7 +11,7 @@ use Rattle.schema.specs.Relations.{itself}
 use Rattle.schema.specs.Views.{Pattern, patternOf}
 use Rattle.sets.specs.Bits.{bit}
 use Rattle.sets.proofs.Bits.{bit-and, bit-without, bit-none, bit-empty}
-use Rattle.rules.specs.Items.{Attributes, none}
+use Rattle.rules.specs.Items.{Attributes, noAttributes}
 use Rattle.rules.specs.Job.{lookups}
 use Rattle.tables.proofs.Booleans.{and-left, and-right, both-and}
 use Rattle.rules.proofs.Booleans.{_∩_, _∖_}
@@ -56,10 +56,10 @@ module _ (e : ℕ) where
   attributes-without a b ha hb =
       fun-ext (λ r. ap (λ (x : Bool). ltb e r && x) (bit-without 64 a b (numberOf r) ha hb) ∙ sym (and-assoc (ltb e r) (bit a (numberOf r)) (not (bit b (numberOf r)))))
 
-  pub no-attributes : attributesIn e 0 ≡ none
+  pub no-attributes : attributesIn e 0 ≡ noAttributes
   no-attributes = fun-ext (λ r. ap (λ (x : Bool). ltb e r && x) (bit-none (numberOf r)) ∙ and-false (ltb e r))
 
-  pub attributes-none : (a : ℕ) → attributesIn e a ≡ none → a ≡ 0
+  pub attributes-none : (a : ℕ) → attributesIn e a ≡ noAttributes → a ≡ 0
   attributes-none a f = bit-empty a .0 (λ x. sym (row-in a x) ∙ ap (λ (A : Attributes). A (attributeRow e x)) f)
 
 -- ---- the rows that the tables cover

@@ -9,7 +9,7 @@ use Rattle.schema.specs.Relations.{connective}
 use Rattle.sets.specs.Bits.{positions, bit, Only}
 use Rattle.relations.specs.Relations.{Relation, Or, Plus}
 use Rattle.relations.specs.Words.{Gap, front, next}
-use Rattle.matching.specs.Setting.{Setting, Asked, Covered, Answers}
+use Rattle.matching.specs.Setting.{Setting, Asked, Covered, HoldsRelated}
 
 -- R under a condition
 abbrev pub Where : Type 0 → Relation → Relation
@@ -20,16 +20,16 @@ abbrev pub OneIn : ℕ → ℕ → Type 0
 OneIn a marked = (x : ℕ) × Only a x × (bit marked x ≡ true)
 
 -- the members of a are in b
-abbrev pub Within : ℕ → ℕ → Type 0
-Within a b = (x : ℕ) → bit a x ≡ true → bit b x ≡ true
+abbrev pub Subset : ℕ → ℕ → Type 0
+Subset a b = (x : ℕ) → bit a x ≡ true → bit b x ≡ true
 
 -- each attribute of a matches alone; then come steps of R, or, beside attributes, no items
-abbrev pub Repeats : (m a k alone : ℕ) → Relation → Relation
-Repeats m a k alone R = Where (Within a alone) (Or (Plus R) (Where (0 < a) (Gap m k)))
+abbrev pub Repetition : (m a k alone : ℕ) → Relation → Relation
+Repetition m a k alone R = Where (Subset a alone) (Or (Plus R) (Where (0 < a) (Gap m k)))
 
 -- the words hold the relation of row p, if that has no operands
-abbrev pub AnswersLeaf : (s marks : List ℕ) (m a k p : ℕ) → List ℕ → Type 0
-AnswersLeaf s marks m a k p words = connective (kindOf s p) ≡ false → (named taken single : List ℕ) → Answers s marks named taken single m a k p words
+abbrev pub HoldsLeaf : (s marks : List ℕ) (m a k p : ℕ) → List ℕ → Type 0
+HoldsLeaf s marks m a k p words = connective (kindOf s p) ≡ false → (named taken single : List ℕ) → HoldsRelated s marks named taken single m a k p words
 
 -- the operands of row p are smaller rows, each with its share of the attributes and items
 pub record Shared (s marks named taken single : List ℕ) (m p a₁ k₁ a₂ k₂ : ℕ) (work : List ℕ) : Type 0 where
@@ -45,5 +45,5 @@ pub record Shared (s marks named taken single : List ℕ) (m p a₁ k₁ a₂ k�
 
 -- the first relation is that of row p's first operand, and the next that of its second
 pub record Operands (s marks named taken single : List ℕ) (m p a₁ k₁ a₂ k₂ : ℕ) (w : List ℕ) : Type 0 where
-  pub first : Answers s marks named taken single m a₁ k₁ (aOf s p) (front m w)
-  pub second : Answers s marks named taken single m a₂ k₂ (bOf s p) (next m w)
+  pub first : HoldsRelated s marks named taken single m a₁ k₁ (aOf s p) (front m w)
+  pub second : HoldsRelated s marks named taken single m a₂ k₂ (bOf s p) (next m w)

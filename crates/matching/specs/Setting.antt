@@ -58,5 +58,5 @@ module _ (s marks named taken single : List ℕ) (m a k p : ℕ) where
     pub room : positions * (p + 1) ≤ length work
 
   -- the words hold the relation of row p for every element whose tables cover it
-  abbrev pub Answers : List ℕ → Type 0
-  Answers words = (S : Setting s) → Asked S a k → Covered S marks named taken single p → Is words (Related S m a k p)
+  abbrev pub HoldsRelated : List ℕ → Type 0
+  HoldsRelated words = (S : Setting s) → Asked S a k → Covered S marks named taken single p → Is words (Related S m a k p)

@@ -4,13 +4,13 @@ ghost use Prim.Native.Nat.{_+_};
 ghost use Rattle.schema.specs.Kinds as kind;
 ghost use Rattle.schema.specs.Rows.{kindOf};
 ghost use Rattle.sets.specs.Bits.{positions};
-ghost use Rattle.relations.specs.Words.{Is, Holds, Room, Up, front, Gap, Single};
-ghost use Rattle.matching.specs.Parts.{Where, OneIn, Repeats, AnswersLeaf, Shared, Operands};
-ghost use Rattle.matching.specs.Setting.{Relatable, Answers};
+ghost use Rattle.relations.specs.Words.{Is, WordsRelate, WordRoom, Up, front, Gap, Single};
+ghost use Rattle.matching.specs.Parts.{Where, OneIn, Repetition, HoldsLeaf, Shared, Operands};
+ghost use Rattle.matching.specs.Setting.{Relatable, HoldsRelated};
 
 // No attributes, and no item of stop.
 fn no_items(m: u32, a: u64, stop: u64, work: &mut [u64])
-    requires { ⌜ Room m m (now work) ⌝ }
+    requires { ⌜ WordRoom m m (now work) ⌝ }
     ensures { λ _. ⌜ Is (front m (now (work .exit))) (Where (a ≡ 0) (Gap m stop)) ⌝ }
 {
     if a == 0 {
@@ -22,7 +22,7 @@ fn no_items(m: u32, a: u64, stop: u64, work: &mut [u64])
 
 // No attributes, and one item of all, a marked one.
 fn one_item(m: u32, a: u64, all: u64, marked: u64, work: &mut [u64])
-    requires { ⌜ Room m m (now work) ⌝ }
+    requires { ⌜ WordRoom m m (now work) ⌝ }
     ensures { λ _. ⌜ Is (front m (now (work .exit))) (Where (a ≡ 0) (Single m all marked)) ⌝ }
 {
     if a == 0 {
@@ -34,7 +34,7 @@ fn one_item(m: u32, a: u64, all: u64, marked: u64, work: &mut [u64])
 
 // One attribute, a marked one, and no item of k.
 fn one_attribute(m: u32, a: u64, marked: u64, k: u64, work: &mut [u64])
-    requires { ⌜ Room m m (now work) ⌝ }
+    requires { ⌜ WordRoom m m (now work) ⌝ }
     ensures { λ _. ⌜ Is (front m (now (work .exit))) (Where (OneIn a marked) (Gap m k)) ⌝ }
 {
     if sets::count(a) == 1 {
@@ -48,8 +48,8 @@ fn one_attribute(m: u32, a: u64, marked: u64, k: u64, work: &mut [u64])
 
 // The relation of a row without operands: mark has the items that it takes, or the attributes.
 fn leaf(schema: &[u32], marks: &[u64], m: u32, a: u64, k: u64, p: u32, work: &mut [u64])
-    requires { ⌜ Room m m (now work) ⌝ }
-    ensures { λ _. ⌜ AnswersLeaf (now (schema .entry)) (now (marks .entry)) m a k p (front m (now (work .exit))) ⌝ }
+    requires { ⌜ WordRoom m m (now work) ⌝ }
+    ensures { λ _. ⌜ HoldsLeaf (now (schema .entry)) (now (marks .entry)) m a k p (front m (now (work .exit))) ⌝ }
 {
     let mark = sets::word(marks, p);
     let kind = schema::kind(schema, p);
@@ -64,8 +64,8 @@ fn leaf(schema: &[u32], marks: &[u64], m: u32, a: u64, k: u64, p: u32, work: &mu
 
 // The repetitions of the first relation: alone has the attributes that match by themselves.
 fn repeated(m: u32, a: u64, k: u64, alone: u64, work: &mut [u64])
-    requires { ⌜ Room m (positions + positions) (now work) × Up (Holds (front m (now work))) ⌝ }
-    ensures { λ _. ⌜ Is (front m (now (work .exit))) (Repeats m a k alone (Holds (front m (now (work .entry))))) ⌝ }
+    requires { ⌜ WordRoom m (positions + positions) (now work) × Up (WordsRelate (front m (now work))) ⌝ }
+    ensures { λ _. ⌜ Is (front m (now (work .exit))) (Repetition m a k alone (WordsRelate (front m (now (work .entry))))) ⌝ }
 {
     if a & !alone != 0 {
         relations::clear(m, work);
@@ -128,7 +128,7 @@ fn one_or_more(
     work: &mut [u64],
 )
     requires { ⌜ (kindOf (now schema) p ≡ kind.oneOrMore) × Relatable (now schema) (now marks) (now named) (now taken) (now single) m a k p (now work) ⌝ }
-    ensures { λ _. ⌜ Answers (now (schema .entry)) (now (marks .entry)) (now (named .entry)) (now (taken .entry)) (now (single .entry)) m a k p (front m (now (work .exit))) ⌝ }
+    ensures { λ _. ⌜ HoldsRelated (now (schema .entry)) (now (marks .entry)) (now (named .entry)) (now (taken .entry)) (now (single .entry)) m a k p (front m (now (work .exit))) ⌝ }
 {
     let q = schema::field_a(schema, p);
     relate(schema, marks, named, taken, single, m, 0, k, q, work);
@@ -149,7 +149,7 @@ fn choice(
     work: &mut [u64],
 )
     requires { ⌜ (kindOf (now schema) p ≡ kind.choice) × Relatable (now schema) (now marks) (now named) (now taken) (now single) m a k p (now work) ⌝ }
-    ensures { λ _. ⌜ Answers (now (schema .entry)) (now (marks .entry)) (now (named .entry)) (now (taken .entry)) (now (single .entry)) m a k p (front m (now (work .exit))) ⌝ }
+    ensures { λ _. ⌜ HoldsRelated (now (schema .entry)) (now (marks .entry)) (now (named .entry)) (now (taken .entry)) (now (single .entry)) m a k p (front m (now (work .exit))) ⌝ }
 {
     operands(schema, marks, named, taken, single, m, p, a, k, a, k, work);
     relations::union(m, work);
@@ -169,7 +169,7 @@ fn group(
     work: &mut [u64],
 )
     requires { ⌜ (kindOf (now schema) p ≡ kind.group) × Relatable (now schema) (now marks) (now named) (now taken) (now single) m a k p (now work) ⌝ }
-    ensures { λ _. ⌜ Answers (now (schema .entry)) (now (marks .entry)) (now (named .entry)) (now (taken .entry)) (now (single .entry)) m a k p (front m (now (work .exit))) ⌝ }
+    ensures { λ _. ⌜ HoldsRelated (now (schema .entry)) (now (marks .entry)) (now (named .entry)) (now (taken .entry)) (now (single .entry)) m a k p (front m (now (work .exit))) ⌝ }
 {
     let n = sets::word(named, schema::field_a(schema, p));
     let a1 = a & n;
@@ -205,7 +205,7 @@ fn interleave(
     work: &mut [u64],
 )
     requires { ⌜ (kindOf (now schema) p ≡ kind.interleave) × Relatable (now schema) (now marks) (now named) (now taken) (now single) m a k p (now work) ⌝ }
-    ensures { λ _. ⌜ Answers (now (schema .entry)) (now (marks .entry)) (now (named .entry)) (now (taken .entry)) (now (single .entry)) m a k p (front m (now (work .exit))) ⌝ }
+    ensures { λ _. ⌜ HoldsRelated (now (schema .entry)) (now (marks .entry)) (now (named .entry)) (now (taken .entry)) (now (single .entry)) m a k p (front m (now (work .exit))) ⌝ }
 {
     let q = schema::field_a(schema, p);
     let n = sets::word(named, q);
@@ -245,7 +245,7 @@ pub fn relate(
     work: &mut [u64],
 )
     requires { ⌜ Relatable (now schema) (now marks) (now named) (now taken) (now single) m a k p (now work) ⌝ }
-    ensures { λ _. ⌜ Answers (now (schema .entry)) (now (marks .entry)) (now (named .entry)) (now (taken .entry)) (now (single .entry)) m a k p (front m (now (work .exit))) ⌝ }
+    ensures { λ _. ⌜ HoldsRelated (now (schema .entry)) (now (marks .entry)) (now (named .entry)) (now (taken .entry)) (now (single .entry)) m a k p (front m (now (work .exit))) ⌝ }
 {
     let kind = schema::kind(schema, p);
     match kind {

@@ -7,7 +7,7 @@ use native.Mathlib.Omega.{arith}
 use Rattle.schema.specs.Kinds as kind
 use Rattle.schema.specs.Rows.{kindOf}
 use Rattle.schema.specs.Relations.{Child}
-use Rattle.places.specs.Marks.{Marks}
+use Rattle.places.specs.Marks.{MarksExactly}
 use Rattle.misplaced.specs.Misplaced.{Misplaced, no-notAllowed, no-empty}
 use Rattle.places.specs.Places.{holdsWhole, emptyFits, PlaceFault, notAllowed-inside, empty-inside}
 use Rattle.places.proofs.Marks.{marks-same}
@@ -26,10 +26,10 @@ module _ {s : List ℕ} {p r : ℕ} where
   fits-other f g (no-notAllowed e n) = f e
   fits-other f g (no-empty e n) = g e
 
-pub marks-places : {s : List ℕ} {m : ℕ} {t : List ℕ} → m ≡ 0 → Marks (Swept s (Misplaced s) m) t → Marks (PlaceFault s) t
+pub marks-places : {s : List ℕ} {m : ℕ} {t : List ℕ} → m ≡ 0 → MarksExactly (Swept s (Misplaced s) m) t → MarksExactly (PlaceFault s) t
 marks-places {s} {m} e = marks-same (λ r w. to (w .child) (w .holds)) from
   where
-    to : {p r : ℕ} → Child s p r → Misplaced s p r → PlaceFault s r
+    to : {p r : ℕ} → Child s r p → Misplaced s p r → PlaceFault s r
     to {p} c (no-notAllowed k n) = notAllowed-inside p k c n
     to {p} c (no-empty k n) = empty-inside p k c n
 

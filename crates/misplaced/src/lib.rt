@@ -7,7 +7,7 @@ ghost use Rattle.tables.specs.Answers.{Decides, Finds};
 ghost use Rattle.schema.specs.RowRule.{maxRows, SizedFault};
 ghost use Rattle.schema.specs.Rows.{rowsOf};
 ghost use Rattle.schema.specs.Marks.{Marked, Adds};
-ghost use Rattle.places.specs.Marks.{Marks, Fits, ChildThat};
+ghost use Rattle.places.specs.Marks.{MarksExactly, MarkRoom, ChildThat};
 ghost use Rattle.places.specs.Places.{holdsWhole, emptyFits, PlaceFault};
 ghost use Rattle.misplaced.specs.Misplaced.{Misplaced};
 
@@ -59,8 +59,8 @@ fn pass_places(schema: &[u32], bad: &mut [u32], p: u32)
 
 // Marks the rows that are out of place. A last row that lacks fields is passed too.
 fn mark_places(schema: &[u32], bad: &mut [u32])
-    requires { ⌜ Fits (now schema) (now bad) ⌝ }
-    ensures { λ _. ⌜ Marks (PlaceFault (now (schema .entry))) (now (bad .exit)) ⌝ }
+    requires { ⌜ MarkRoom (now schema) (now bad) ⌝ }
+    ensures { λ _. ⌜ MarksExactly (PlaceFault (now (schema .entry))) (now (bad .exit)) ⌝ }
 {
     tables::zero_u32(bad);
     let mut p = (schema.len() / 3 + 1) as u32;

@@ -2,7 +2,7 @@
 use instance::ATTRIBUTE;
 use instance::ELEMENT;
 use instance::MAX_NODES;
-use instance::NONE;
+use instance::NO_PARENT;
 use instance::TEXT;
 use tables::Checked;
 ghost use mathlib.Core.Path.{_≡_};
@@ -13,7 +13,7 @@ ghost use Rattle.tables.specs.Answers.{Decides, Finds};
 ghost use Rattle.tables.specs.Outputs.{zeros};
 ghost use Rattle.instance.specs.Nodes.{nodesOf};
 ghost use Rattle.instance.specs.NodeRule.{maxNodes, fieldsRight, nearest, ParentRight, SizeFault, WrongNode, NodeFault};
-ghost use Rattle.instance.specs.Walk.{Rooted, LastChildren, Twin, Repeats, BadNode, Placed, TellsWrong};
+ghost use Rattle.instance.specs.Walk.{Rooted, LastChildren, Twin, RepeatsName, BadNode, Placed, TellsWrong};
 
 // Whether x is the number of a string other than the empty one, string 0.
 fn is_nonempty(strings: usize, x: u32) -> bool
@@ -70,7 +70,7 @@ fn root_right(instance: &[u32]) -> bool
     if instance::kind(instance, 0) != ELEMENT {
         return false;
     }
-    if instance::parent(instance, 0) != NONE {
+    if instance::parent(instance, 0) != NO_PARENT {
         return false;
     }
     true
@@ -126,7 +126,7 @@ fn is_twin(instance: &[u32], p: u32, q: u32, r: u32) -> bool
 // Whether an attribute of element p between p and r has the name of row r.
 fn repeats_name(instance: &[u32], p: u32, r: u32) -> bool
     requires { ⌜ (p < r) × (r ≤ maxNodes) ⌝ }
-    ensures { λ repeats. ⌜ Decides (Repeats (now (instance .entry)) p r) repeats ⌝ }
+    ensures { λ repeats. ⌜ Decides (RepeatsName (now (instance .entry)) p r) repeats ⌝ }
 {
     let mut q = p + 1;
     while q < r {

@@ -12,8 +12,8 @@ use Rattle.schema.specs.Relations.{Occurs}
 use Rattle.schema.specs.RowRule.{SizeRight}
 use Rattle.schema.proofs.RowLaws.{in-table}
 use Rattle.schema.specs.Marks.{Marked}
-use Rattle.places.specs.Marks.{Marks, Under}
-use Rattle.places.specs.Paths.{isPair}
+use Rattle.places.specs.Marks.{MarksExactly, Under}
+use Rattle.places.specs.Paths.{sharingKind}
 use Rattle.places.specs.Sources.{HasKind}
 use Rattle.occurrences.specs.Attributes.{Infinite, AttributeFault, duplicate, not-repeated}
 use Rattle.occurrences.specs.Interleaves.{InterleaveFault, same-element, text-twice}
@@ -22,12 +22,12 @@ use Rattle.occurrences.specs.declared.Wanted.the-variants.{Text, Attribu
 
 module _ (s : List ℕ) (r : ℕ) where
   -- the kind of an attribute is no group or interleave
-  unpaired : kindOf s r ≡ kind.attribute → isPair (kindOf s r) ≡ true → ⊥
-  unpaired e p = false≢true (sym (ap isPair e) ∙ p)
+  unpaired : kindOf s r ≡ kind.attribute → sharingKind (kindOf s r) ≡ true → ⊥
+  unpaired e p = false≢true (sym (ap sharingKind e) ∙ p)
 
   -- attributes on the two sides of a group or interleave
-  pub pair-decides : isPair (kindOf s r) ≡ true → (x : Bool) → Decides (Somewhere s (Suits s (AttributeMeeting (childB s r))) (childA s r)) x → Decides (AttributeFault s r) x
-  pair-decides p x = decides-same x to from
+  pub sharing-decides : sharingKind (kindOf s r) ≡ true → (x : Bool) → Decides (Somewhere s (Suits s (AttributeMeeting (childB s r))) (childA s r)) x → Decides (AttributeFault s r) x
+  sharing-decides p x = decides-same x to from
     where
       to : Somewhere s (Suits s (AttributeMeeting (childB s r))) (childA s r) → AttributeFault s r
       to f = let g = f .2 .1 in duplicate (f .0) (g .0) (g .2 .1 .0) (g .2 .1 .1) p (f .1) (f .2 .0) (g .1) (g .2 .0) (g .2 .1 .2)
@@ -37,11 +37,11 @@ module _ (s : List ℕ) (r : ℕ) where
       from (not-repeated k i n) = absurd (unpaired k p)
 
   -- another row that is no attribute
-  pub no-attribute-fault : isPair (kindOf s r) ≡ false → (kindOf s r ≡ kind.attribute → ⊥) → ¬ AttributeFault s r
+  pub no-attribute-fault : sharingKind (kindOf s r) ≡ false → (kindOf s r ≡ kind.attribute → ⊥) → ¬ AttributeFault s r
   no-attribute-fault p n (duplicate x y u l q o k o′ k′ c) = true≢false (sym q ∙ p)
   no-attribute-fault p n (not-repeated k i m) = n k
 
-  module _ {repeated : List ℕ} (marks : Marks (Under s (HasKind s kind.oneOrMore)) repeated) (e : kindOf s r ≡ kind.attribute) where
+  module _ {repeated : List ℕ} (marks : MarksExactly (Under s (HasKind s kind.oneOrMore)) repeated) (e : kindOf s r ≡ kind.attribute) where
     -- an attribute below a oneOrMore may have any class
     pub repeated-right : Marked repeated r → ¬ AttributeFault s r
     repeated-right m (duplicate x y u l q o k o′ k′ c) = unpaired e q
@@ -81,7 +81,7 @@ module _ (s : List ℕ) (r : ℕ) where
 
 -- faults are at rows of the table
 pub attribute-row : {s : List ℕ} {r : ℕ} → SizeRight s → AttributeFault s r → r < rowsOf s
-attribute-row w (duplicate x y u l q o k o′ k′ c) = in-table w (λ z. false≢true (sym (ap isPair z) ∙ q))
+attribute-row w (duplicate x y u l q o k o′ k′ c) = in-table w (λ z. false≢true (sym (ap sharingKind z) ∙ q))
 attribute-row w (not-repeated k i n) = in-table w (λ z. omega (arith, k, z))
 
 pub interleave-row : {s : List ℕ} {r : ℕ} → SizeRight s → InterleaveFault s r → r < rowsOf s

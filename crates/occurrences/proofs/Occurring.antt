@@ -7,7 +7,7 @@ use Prim.Native.Nat.{ℕ, _≤_, _<_}
 use Rattle.schema.specs.Kinds as kind
 use Rattle.schema.specs.Rows.{kindOf}
 use Rattle.schema.specs.Relations.{Child, connective, Occurs, itself, within}
-use Rattle.classes.specs.Least.{Least}
+use Rattle.classes.specs.Least.{LeastCommon}
 use Rattle.classes.specs.declared.Found.{Found}
 use Rattle.classes.specs.declared.Found.the-variants.{Name, Nothing}
 use Rattle.schema.proofs.Shapes.{inside, outside}
@@ -26,7 +26,7 @@ module _ (s : List ℕ) (P : ℕ → Type 0) (p : ℕ) where
   occurs-here w = (p, itself, w)
 
   -- an occurrence is at p or in a child
-  inside-of : (x : ℕ) → Occurs s x p → P x → P p ⊎ ((connective (kindOf s p) ≡ true) × ((q : ℕ) × Child s p q × Somewhere s P q))
+  inside-of : (x : ℕ) → Occurs s x p → P x → P p ⊎ ((connective (kindOf s p) ≡ true) × ((q : ℕ) × Child s q p × Somewhere s P q))
   inside-of x itself w = inl w
   inside-of x (within {q = q} c h o) w = inr (c, (q, h, (x, o, w)))
 
@@ -40,9 +40,9 @@ module _ (s : List ℕ) (P : ℕ → Type 0) (p : ℕ) where
   }
 
 -- classes share a name exactly when there is a least one
-module _ (s : List ℕ) (c d : ℕ) {r : Found} (least : Least s c d r) where
+module _ (s : List ℕ) (c d : ℕ) {r : Found} (least : LeastCommon s c d r) where
   pub shared-yes : {u l : ℕ} → r ≡ Name u l → Shared s c d
-  shared-yes {u} {l} e = (u, l, subst (Least s c d) e least .0)
+  shared-yes {u} {l} e = (u, l, subst (LeastCommon s c d) e least .0)
 
   pub shared-no : r ≡ Nothing → ¬ Shared s c d
-  shared-no e f = subst (Least s c d) e least (f .0) (f .1) (f .2)
+  shared-no e f = subst (LeastCommon s c d) e least (f .0) (f .1) (f .2)

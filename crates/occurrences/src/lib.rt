@@ -7,7 +7,7 @@ ghost use Rattle.tables.specs.Answers.{Finds, Decides};
 ghost use Rattle.schema.specs.Kinds.{oneOrMore};
 ghost use Rattle.schema.specs.Rows.{rowsOf};
 ghost use Rattle.schema.specs.RowRule.{SizeRight, SizedFault};
-ghost use Rattle.places.specs.Marks.{Marks, Under};
+ghost use Rattle.places.specs.Marks.{MarksExactly, Under};
 ghost use Rattle.places.specs.Sources.{HasKind};
 ghost use Rattle.occurrences.specs.Attributes.{Infinite, AttributeFault};
 ghost use Rattle.occurrences.specs.Interleaves.{classReferred, InterleaveFault};
@@ -175,11 +175,11 @@ fn occurs_child(
 
 // Whether row r breaks a restriction on attributes, with a table of the rows below a oneOrMore. Two attributes meet at one row only, so their comparison is not remembered.
 fn attribute_fault(schema: &[u32], repeated: &[u32], r: u32) -> bool
-    requires { ⌜ SizeRight (now schema) × Marks (Under (now schema) (HasKind (now schema) oneOrMore)) (now repeated) × (r < rowsOf (now schema)) ⌝ }
+    requires { ⌜ SizeRight (now schema) × MarksExactly (Under (now schema) (HasKind (now schema) oneOrMore)) (now repeated) × (r < rowsOf (now schema)) ⌝ }
     ensures { λ fault. ⌜ Decides (AttributeFault (now (schema .entry)) r) fault ⌝ }
 {
     let kind = schema::kind(schema, r);
-    if places::is_pair(kind) {
+    if places::is_sharing(kind) {
         let mut unused = [0u64; 1];
         return occurs(
             schema,
@@ -220,7 +220,7 @@ fn interleave_fault(schema: &[u32], r: u32, compared: &mut [u64]) -> bool
 
 // The first row that breaks a restriction on attributes, with a table of the rows below a oneOrMore.
 fn scan_attributes(schema: &[u32], repeated: &[u32]) -> Checked
-    requires { ⌜ SizeRight (now schema) × Marks (Under (now schema) (HasKind (now schema) oneOrMore)) (now repeated) ⌝ }
+    requires { ⌜ SizeRight (now schema) × MarksExactly (Under (now schema) (HasKind (now schema) oneOrMore)) (now repeated) ⌝ }
     ensures { λ r. ⌜ Finds (AttributeFault (now (schema .entry))) r ⌝ }
 {
     let rows = schema.len() / 3;

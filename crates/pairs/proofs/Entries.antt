@@ -36,7 +36,7 @@ use Rattle.contents.proofs.AttributeWord.{value-string, few-counted}
 use Rattle.contents.proofs.ItemRuns.{Kind, is-text, is-element, kind-at, child-at, few-listed, collected-contents}
 use Rattle.alone.specs.Alone.{Filled}
 use Rattle.pairs.specs.Pairs.{IsPair, TablesPass}
-use Rattle.pairs.specs.Rows.{RowKept, RowTold, RowRight, Filling, Known, isSolid, Ready, StandsFor}
+use Rattle.pairs.specs.Rows.{RowKept, RowTold, RowRight, Filling, Known, isSolid, ElementReady, StandsFor}
 use Rattle.pairs.proofs.Showing.{text-item, mixed-shown, simple-shown, string-known}
 
 -- what the words are made from stays, where only the row of e changes
@@ -162,7 +162,7 @@ module _ (blank items : List ℕ) {n texts elements : ℕ} where
   mixed-stands {content} {k} few l q f solid = record { few = few; ready = λ J alone nothing pairs e attributes a known. ready known }
     where
       ready : {J : Tables} {alone nothing pairs : List ℕ} {e attributes a : ℕ} → Known J alone nothing blank pairs items e attributes a n texts elements
-          → Ready J alone nothing blank pairs (take n items) e attributes texts a k false
+          → ElementReady J alone nothing blank pairs (take n items) e attributes texts a k false
       ready known =
           let size : n ≡ length (take n items) = sym (length-take-le n items l) in
           let c = contents-taken (known .contents) in
@@ -184,7 +184,7 @@ module _ (blank items : List ℕ) {n texts elements : ℕ} where
       first = getD-take 1 (set items 0 v) 0 0 (omega arith) ∙ getD-set-same items 0 v 0 l
 
       ready : {J : Tables} {alone nothing pairs : List ℕ} {e attributes a : ℕ} → Known J alone nothing blank pairs items e attributes a n texts elements
-          → Ready J alone nothing blank pairs (take 1 (set items 0 v)) e attributes 1 a 1 weak
+          → ElementReady J alone nothing blank pairs (take 1 (set items 0 v)) e attributes 1 a 1 weak
       ready known =
           let low = string-known (known .filling .pass) (known .in-table) (known .counted) (known .few) (known .all) (known .contents) z q in
           record {

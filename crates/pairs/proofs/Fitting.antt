@@ -25,7 +25,7 @@ use Rattle.relations.specs.Words.{Is, front}
 use Rattle.sets.proofs.Members.{none-has}
 use Rattle.relations.proofs.Words.{front-at}
 use Rattle.tables.proofs.Booleans.{and-left}
-use Rattle.marks.specs.Given.{itemAt, Given, Markable, Marks}
+use Rattle.marks.specs.Given.{itemAt, Given, Markable, MarksPattern}
 use Rattle.matching.specs.Setting.{Setting, Asked, Covered, Relatable}
 use Rattle.pairs.specs.Pairs.{IsPair}
 use Rattle.pairs.specs.Rows.{Fits, Shown, Space, PairAsked}
@@ -117,6 +117,6 @@ module _ {s t alone nothing blank pairs items : List ℕ} {e attributes texts a 
       let h₄ = space .for-single in
       record { strings = q .strings; given = q .given; row = pattern-row; room-marks = omega arith; room-named = omega arith; room-taken = omega arith; room-single = omega arith }
 
-  pub pair-relatable : {marks₀ named₀ taken₀ single₀ marks named taken single work : List ℕ} {n : ℕ} → Marks s t alone nothing blank pairs items e attributes texts p marks₀ named₀ taken₀ single₀ marks named taken single
+  pub pair-relatable : {marks₀ named₀ taken₀ single₀ marks named taken single work : List ℕ} {n : ℕ} → MarksPattern s t alone nothing blank pairs items e attributes texts p marks₀ named₀ taken₀ single₀ marks named taken single
       → n ≡ length items → positions * maxRows ≤ length work → Relatable s marks named taken single (n + 1) a k p work
   pair-relatable m size room = rw size (relatable (q .given) (q .shown) pattern-row (m .marking (q .strings) (q .given) .pattern) room)

@@ -79,7 +79,7 @@ pub record Known (J : Tables) (alone nothing blank pairs items : List ℕ) (e at
   pub contents : Contents (J .instance) e items n texts elements
 
 -- what the items of an element are asked with
-pub record Ready (J : Tables) (alone nothing blank pairs items : List ℕ) (e attributes texts a k : ℕ) (weak : Bool) : Type 0 where
+pub record ElementReady (J : Tables) (alone nothing blank pairs items : List ℕ) (e attributes texts a k : ℕ) (weak : Bool) : Type 0 where
   pub given : Given J alone nothing blank pairs items e attributes texts
   pub shown : Shown J items e attributes texts a k weak
   -- the elements among the items have rows of their own, and that of e is empty
@@ -90,7 +90,7 @@ pub record Ready (J : Tables) (alone nothing blank pairs items : List ℕ) (e at
 pub record StandsFor (blank before after : List ℕ) (n texts elements count strings k : ℕ) (weak : Bool) : Type 0 where
   pub few : count ≤ maxWidth
   pub ready : (J : Tables) (alone nothing pairs : List ℕ) (e attributes a : ℕ) → Known J alone nothing blank pairs before e attributes a n texts elements
-      → Ready J alone nothing blank pairs (take count after) e attributes strings a k weak
+      → ElementReady J alone nothing blank pairs (take count after) e attributes strings a k weak
 
 -- ---- what the functions that fill the table are asked with
 
@@ -114,7 +114,7 @@ pub record PairAsked (s t alone nothing blank pairs items : List ℕ) (e attribu
 -- the row of an element that its items stand for, for some strings
 pub record RowAsked (s t alone nothing blank pairs items : List ℕ) (e attributes texts a k : ℕ) (weak : Bool) : Type 0 where
   pub strings : StringTable
-  pub ready : Ready (tablesOf strings s t) alone nothing blank pairs items e attributes texts a k weak
+  pub ready : ElementReady (tablesOf strings s t) alone nothing blank pairs items e attributes texts a k weak
   pub element : isElement t e ≡ true
   pub room : maxNodes * maxRows ≤ length pairs
   pub row : e < maxNodes

@@ -15,7 +15,7 @@ ghost use Rattle.sets.specs.Collecting.{Collects};
 ghost use Rattle.matching.specs.Setting.{Setting, Asked, Covered, Related, Relatable};
 ghost use Rattle.marks.specs.Given.{Given};
 ghost use Rattle.pairs.specs.Pairs.{IsPair, PairsRight, Pairable};
-ghost use Rattle.pairs.specs.Rows.{Fits, Shown, Ready, RowRight, isSolid, Filling, StandsFor, Space, PairAsked, RowAsked, NodeAsked, TableAsked};
+ghost use Rattle.pairs.specs.Rows.{Fits, Shown, ElementReady, RowRight, isSolid, Filling, StandsFor, Space, PairAsked, RowAsked, NodeAsked, TableAsked};
 
 // Whether the attributes a and all items of k, of the first n, match the pattern at row p.
 fn all_match(
@@ -142,7 +142,7 @@ fn pair_row(
     work: &mut [u64],
 )
     requires { ⌜ Space (now marks) (now named) (now taken) (now single) (now work) × RowAsked (now schema) (now instance) (now alone) (now nothing) (now blank) (now pairs) (now items) e attributes texts a k weak × Definitions (now schema) (now definitions) (length (now definitions)) ⌝ }
-    ensures { λ _. ⌜ ((T : StringTable) → Ready (tablesOf T (now (schema .entry)) (now (instance .entry))) (now (alone .entry)) (now (nothing .entry)) (now (blank .entry)) (now (pairs .entry)) (now (items .entry)) e attributes texts a k weak → RowRight (tablesOf T (now (schema .entry)) (now (instance .entry))) (now (pairs .entry)) (now (pairs .exit)) e) ⌝ }
+    ensures { λ _. ⌜ ((T : StringTable) → ElementReady (tablesOf T (now (schema .entry)) (now (instance .entry))) (now (alone .entry)) (now (nothing .entry)) (now (blank .entry)) (now (pairs .entry)) (now (items .entry)) e attributes texts a k weak → RowRight (tablesOf T (now (schema .entry)) (now (instance .entry))) (now (pairs .entry)) (now (pairs .exit)) e) ⌝ }
 {
     let mut i: usize = 0;
     while i < definitions.len() {

@@ -12,31 +12,31 @@ use Rattle.tables.specs.Answers.{Decides}
 use Rattle.tables.specs.Outputs.{zeros}
 use Rattle.tables.proofs.Answers.{said-yes}
 use Rattle.tables.proofs.Fill.{getD-zeros}
-use Rattle.schema.specs.Kinds.{none}
+use Rattle.schema.specs.Kinds.{noRow}
 use Rattle.schema.specs.Marks.{Marked, childrenMarked, Adds}
 use Rattle.schema.specs.Rows.{childA, childB}
 use Rattle.schema.specs.RowRule.{maxRows}
 use Rattle.schema.proofs.Children.{child-less, child-is, child-a, child-b}
 use Rattle.schema.proofs.Marks.{PickedChild, picked-a, picked-b, adds-same, adds-children}
-use Rattle.places.specs.Marks.{Marks, ChildThat}
+use Rattle.places.specs.Marks.{MarksExactly, ChildThat}
 
 module _ {P : ℕ → Type 0} where
-  pub marks-none : (n : ℕ) → ((r : ℕ) → ¬ P r) → Marks P (zeros n)
-  marks-none n none = record { sound = λ r m. absurd (omega (arith, getD-zeros n r)); complete = λ r p. absurd (none r p); rest = λ r m. getD-zeros n r }
+  pub marks-none : (n : ℕ) → ((r : ℕ) → ¬ P r) → MarksExactly P (zeros n)
+  marks-none n noRow = record { sound = λ r m. absurd (omega (arith, getD-zeros n r)); complete = λ r p. absurd (noRow r p); rest = λ r m. getD-zeros n r }
 
   -- every word is fixed by the rows that are marked
-  pub marks-unique : (t u : List ℕ) → length t ≡ length u → Marks P t → Marks P u → t ≡ u
+  pub marks-unique : (t u : List ℕ) → length t ≡ length u → MarksExactly P t → MarksExactly P u → t ≡ u
   marks-unique t u e m n = ext-getD 0 t u e (λ k h. go k (ℕ-discrete (getD t k 0) 1))
     where
       go : (k : ℕ) → Dec (Marked t k) → getD t k 0 ≡ getD u k 0
       go k (yes d) = d ∙ sym (n .complete k (m .sound k d))
       go k (no d) = m .rest k d ∙ sym (n .rest k (λ x. d (m .complete k (n .sound k x))))
 
-pub marks-same : {P Q : ℕ → Type 0} → ((r : ℕ) → P r → Q r) → ((r : ℕ) → Q r → P r) → {t : List ℕ} → Marks P t → Marks Q t
+pub marks-same : {P Q : ℕ → Type 0} → ((r : ℕ) → P r → Q r) → ((r : ℕ) → Q r → P r) → {t : List ℕ} → MarksExactly P t → MarksExactly Q t
 marks-same to from m = record { sound = λ r h. to r (m .sound r h); complete = λ r q. m .complete r (from r q); rest = m .rest }
 
 -- where R holds where P or Q does
-pub marks-more : {P Q R : ℕ → Type 0} → ((r : ℕ) → P r → R r) → ((r : ℕ) → Q r → R r) → ((r : ℕ) → R r → P r ⊎ Q r) → {t u : List ℕ} → Marks P t → Adds Q t u → Marks R u
+pub marks-more : {P Q R : ℕ → Type 0} → ((r : ℕ) → P r → R r) → ((r : ℕ) → Q r → R r) → ((r : ℕ) → R r → P r ⊎ Q r) → {t u : List ℕ} → MarksExactly P t → Adds Q t u → MarksExactly R u
 marks-more left right split m a = record {
   sound = λ r h. ⊎-elim (λ o. left r (m .sound r o)) (λ q. right r q) (a .only r h);
   complete = λ r x. ⊎-elim (λ p. a .kept r (m .complete r p)) (λ q. a .added r q) (split r x);
@@ -52,7 +52,7 @@ module _ {s t : List ℕ} {p : ℕ} (low : p ≤ maxRows) (room : length t ≡ m
   pub adds-those : {u : List ℕ} → u ≡ childrenMarked s p a b t → Adds (ChildThat s p P) t u
   adds-those e = rw e (adds-same to from (adds-children s t p a b (omega arith) (omega arith)))
     where
-      within : p ≤ none
+      within : p ≤ noRow
       within = omega arith
 
       to : (r : ℕ) → PickedChild s p a b r → ChildThat s p P r

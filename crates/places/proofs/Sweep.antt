@@ -14,11 +14,11 @@ use Rattle.schema.specs.Relations.{Child, by-a, by-b, Below, child, deeper}
 use Rattle.schema.proofs.Children.{child-less}
 use Rattle.schema.specs.Marks.{Marked, Adds}
 use Rattle.schema.proofs.Marks.{adds-same}
-use Rattle.places.specs.Marks.{Marks, ChildThat, Under}
+use Rattle.places.specs.Marks.{MarksExactly, ChildThat, Under}
 use Rattle.places.proofs.Marks.{marks-none, marks-same, marks-more}
 
 -- a row that has no kind has no child
-childless : {s : List ℕ} {p r : ℕ} → kindOf s p ≡ 0 → ¬ Child s p r
+childless : {s : List ℕ} {p r : ℕ} → kindOf s p ≡ 0 → ¬ Child s r p
 unfolding shapeOf
 childless {s} {p} e (by-a n f) = false≢true (rw e at n)
 childless {s} {p} e (by-b n f) = false≢true (rw e at n)
@@ -36,14 +36,14 @@ row-end {s} h = record { few = omega arith; past = λ p k. List·getD-eq-default
 pub record Swept (s : List ℕ) (Q : ℕ → ℕ → Type 0) (m r : ℕ) : Type 0 where
   pub row : ℕ
   pub late : m ≤ row
-  pub child : Child s row r
+  pub child : Child s r row
   pub holds : Q row r
 
 module _ {s : List ℕ} {Q : ℕ → ℕ → Type 0} where
-  pub sweep-none : {n : ℕ} (k : ℕ) → RowEnd s n → Marks (Swept s Q n) (zeros k)
+  pub sweep-none : {n : ℕ} (k : ℕ) → RowEnd s n → MarksExactly (Swept s Q n) (zeros k)
   sweep-none k end = marks-none k (λ r w. childless (end .past (w .row) (w .late)) (w .child))
 
-  pub sweep-more : {m n : ℕ} {t u : List ℕ} → n ≡ suc m → Marks (Swept s Q n) t → Adds (ChildThat s m (Q m)) t u → Marks (Swept s Q m) u
+  pub sweep-more : {m n : ℕ} {t u : List ℕ} → n ≡ suc m → MarksExactly (Swept s Q n) t → Adds (ChildThat s m (Q m)) t u → MarksExactly (Swept s Q m) u
   sweep-more {m} {n} e = marks-more left right split
     where
       left : (r : ℕ) → Swept s Q n r → Swept s Q m r
@@ -62,21 +62,21 @@ module _ {s : List ℕ} {Q : ℕ → ℕ → Type 0} where
 -- the last step of a way down
 record LastStep (s : List ℕ) (r q : ℕ) : Type 0 where
   pub row : ℕ
-  pub child : Child s row r
+  pub child : Child s r row
   pub rest : (row ≡ q) ⊎ Below s row q
 
 last-step : {s : List ℕ} {r q : ℕ} → Below s r q → LastStep s r q
 last-step {s} {r} {q} (child c) = record { row = q; child = c; rest = inl refl }
 last-step {s} {r} {q} (deeper c b) = go (last-step b) c
   where
-    go : {m : ℕ} → LastStep s r m → Child s q m → LastStep s r q
+    go : {m : ℕ} → LastStep s r m → Child s m q → LastStep s r q
     go l c = record {
       row = l .row;
       child = l .child;
-      rest = inr (⊎-elim (λ e. child (subst (Child s q) (sym e) c)) (λ b. deeper c b) (l .rest));
+      rest = inr (⊎-elim (λ e. child (subst (λ m. Child s m q) (sym e) c)) (λ b. deeper c b) (l .rest));
     }
 
-pub further : {s : List ℕ} {p q r : ℕ} → Below s p q → Child s p r → Below s r q
+pub further : {s : List ℕ} {p q r : ℕ} → Below s p q → Child s r p → Below s r q
 further (child c) d = deeper c (child d)
 further (deeper c b) d = deeper c (further b d)
 
@@ -103,7 +103,7 @@ module _ {s : List ℕ} {S : ℕ → Type 0} where
       }
 
   -- when row m is passed, its mark says already whether it is below a source
-  pub sweep-below : {m n : ℕ} {t u : List ℕ} → n ≡ suc m → Marks (Swept s (Passed s S) n) t → Adds (ChildThat s m (λ r. S m ⊎ Marked t m)) t u → Marks (Swept s (Passed s S) m) u
+  pub sweep-below : {m n : ℕ} {t u : List ℕ} → n ≡ suc m → MarksExactly (Swept s (Passed s S) n) t → Adds (ChildThat s m (λ r. S m ⊎ Marked t m)) t u → MarksExactly (Swept s (Passed s S) m) u
   sweep-below {m} {n} {t} e marks adds = sweep-more e marks (adds-same to from adds)
     where
       to : (r : ℕ) → ChildThat s m (λ r. S m ⊎ Marked t m) r → ChildThat s m (Passed s S m) r
@@ -112,5 +112,5 @@ module _ {s : List ℕ} {S : ℕ → Type 0} where
       from : (r : ℕ) → ChildThat s m (Passed s S m) r → ChildThat s m (λ r. S m ⊎ Marked t m) r
       from r k = record { child = k .child; holds = ⊎-elim (λ x. inl x) (λ u. inr (marks .complete m (under-swept n m (omega arith) u))) (k .holds) }
 
-  pub sweep-end : {m : ℕ} {t : List ℕ} → m ≡ 0 → Marks (Swept s (Passed s S) m) t → Marks (Under s S) t
+  pub sweep-end : {m : ℕ} {t : List ℕ} → m ≡ 0 → MarksExactly (Swept s (Passed s S) m) t → MarksExactly (Under s S) t
   sweep-end {m} e = marks-same (swept-under m) (λ r. under-swept m r (omega arith))

@@ -9,19 +9,19 @@ use Rattle.schema.specs.Rows.{rowsOf}
 use Rattle.schema.specs.Relations.{Child, Below}
 
 -- the marked rows are those of which P holds, and every other word is 0
-pub record Marks (P : ℕ → Type 0) (t : List ℕ) : Type 0 where
+pub record MarksExactly (P : ℕ → Type 0) (t : List ℕ) : Type 0 where
   pub sound : (r : ℕ) → Marked t r → P r
   pub complete : (r : ℕ) → P r → Marked t r
   pub rest : (r : ℕ) → ¬ Marked t r → getD t r 0 ≡ 0
 
 -- few enough rows, and a table of a word for each of so many
-pub record Fits (s t : List ℕ) : Type 0 where
+pub record MarkRoom (s t : List ℕ) : Type 0 where
   pub few : rowsOf s ≤ maxRows
   pub room : length t ≡ maxRows
 
 -- r is a child of p of which P holds
 pub record ChildThat (s : List ℕ) (p : ℕ) (P : ℕ → Type 0) (r : ℕ) : Type 0 where
-  pub child : Child s p r
+  pub child : Child s r p
   pub holds : P r
 
 -- r is below a row of which S holds

@@ -19,5 +19,5 @@ emptyFits s p r =
 
 -- code 3 at row r
 pub data PlaceFault (s : List ℕ) (r : ℕ) : Type 0 where
-  notAllowed-inside : (p : ℕ) → kindOf s r ≡ kind.notAllowed → Child s p r → holdsWhole (kindOf s p) ≡ false → PlaceFault s r
-  empty-inside : (p : ℕ) → kindOf s r ≡ kind.empty → Child s p r → emptyFits s p r ≡ false → PlaceFault s r
+  notAllowed-inside : (p : ℕ) → kindOf s r ≡ kind.notAllowed → Child s r p → holdsWhole (kindOf s p) ≡ false → PlaceFault s r
+  empty-inside : (p : ℕ) → kindOf s r ≡ kind.empty → Child s r p → emptyFits s p r ≡ false → PlaceFault s r

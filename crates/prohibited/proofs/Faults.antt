@@ -13,14 +13,14 @@ use Rattle.tables.specs.declared.Checked.the-variants.{Fine, Fault}
 use Rattle.tables.proofs.Answers.{finds-same}
 use Rattle.tables.proofs.Booleans.{or-either}
 use Rattle.schema.specs.Kinds as kind
-use Rattle.places.specs.Marks.{Marks, Under}
-use Rattle.places.specs.Sources.{HasKind, PairIn}
+use Rattle.places.specs.Marks.{MarksExactly, Under}
+use Rattle.places.specs.Sources.{HasKind, SharingIn}
 use Rattle.places.proofs.Marks.{marks-same}
-use Rattle.prohibited.specs.Prohibited.{RepeatedPair, MarkedKind, Prohibited, earliest}
+use Rattle.prohibited.specs.Prohibited.{RepeatedSharing, MarkedKind, Prohibited, earliest}
 use Rattle.prohibited.specs.declared.Kinds.{Kinds}
-use Rattle.prohibited.specs.declared.Kinds.the-variants.{NotInAnyName, NotInNsName, NotInAttribute, NotInPair, NotInExcept, NotInStart}
+use Rattle.prohibited.specs.declared.Kinds.the-variants.{NotInAnyName, NotInNsName, NotInAttribute, NotInRepeated, NotInExcept, NotInStart}
 use Rattle.places.specs.Names.{NameFault, anyName-in-anyName, anyName-in-nsName, nsName-in-nsName}
-use Rattle.places.specs.Paths.{PathFault, in-attribute, in-repeated-pair, in-except, in-start}
+use Rattle.places.specs.Paths.{PathFault, in-attribute, in-repeated-sharing, in-except, in-start}
 
 abbrev pub Either : (ℕ → Type 0) → (ℕ → Type 0) → ℕ → Type 0
 Either P Q r = P r ⊎ Q r
@@ -41,17 +41,17 @@ module _ (P Q : ℕ → Type 0) where
 
 -- the search of a table that marks the rows below S
 module _ {s : List ℕ} {S : ℕ → Type 0} {t : List ℕ} (kinds : Kinds) where
-  pub finds-below : (c : Checked) → Marks (Under s S) t → Finds (MarkedKind s t kinds) c → Finds (Prohibited s S kinds) c
+  pub finds-below : (c : Checked) → MarksExactly (Under s S) t → Finds (MarkedKind s t kinds) c → Finds (Prohibited s S kinds) c
   finds-below c m =
       finds-same c
       (λ r f. record { under = m .sound r (f .mark); among = f .among })
       (λ r f. record { mark = m .complete r (f .under); among = f .among })
 
-pub marks-repeated : {s t : List ℕ} {u : List ℕ} → Marks (Under s (HasKind s kind.oneOrMore)) t → Marks (Under s (PairIn s t)) u → Marks (Under s (RepeatedPair s)) u
+pub marks-repeated : {s t : List ℕ} {u : List ℕ} → MarksExactly (Under s (HasKind s kind.oneOrMore)) t → MarksExactly (Under s (SharingIn s t)) u → MarksExactly (Under s (RepeatedSharing s)) u
 marks-repeated m =
     marks-same
-    (λ r u. record { row = u .row; source = record { pair = u .source .pair; repeated = m .sound (u .row) (u .source .mark) }; below = u .below })
-    (λ r u. record { row = u .row; source = record { pair = u .source .pair; mark = m .complete (u .row) (u .source .repeated) }; below = u .below })
+    (λ r u. record { row = u .row; source = record { sharing = u .source .sharing; repeated = m .sound (u .row) (u .source .mark) }; below = u .below })
+    (λ r u. record { row = u .row; source = record { sharing = u .source .sharing; mark = m .complete (u .row) (u .source .repeated) }; below = u .below })
 
 -- code 4, by the anyNames and by the nsNames
 abbrev pub Names : List ℕ → ℕ → Type 0
@@ -76,7 +76,7 @@ module _ {s : List ℕ} where
 abbrev pub Paths : List ℕ → ℕ → Type 0
 Paths s =
     Either
-    (Either (Prohibited s (HasKind s kind.attribute) NotInAttribute) (Prohibited s (RepeatedPair s) NotInPair))
+    (Either (Prohibited s (HasKind s kind.attribute) NotInAttribute) (Prohibited s (RepeatedSharing s) NotInRepeated))
     (Either (Prohibited s (HasKind s kind.«data») NotInExcept) (Prohibited s (HasKind s kind.start) NotInStart))
 
 module _ {s : List ℕ} where
@@ -85,13 +85,13 @@ module _ {s : List ℕ} where
   path-fault r (inl (inr f)) =
       let u = f .under in
       let q = u .source .repeated in
-      in-repeated-pair (u .row) (q .row) (eqb-true _ _ (f .among)) (u .source .pair) (u .below) (q .source) (q .below)
+      in-repeated-sharing (u .row) (q .row) (eqb-true _ _ (f .among)) (u .source .sharing) (u .below) (q .source) (q .below)
   path-fault r (inr (inl f)) = let u = f .under in in-except (u .row) (f .among) (u .source) (u .below)
   path-fault r (inr (inr f)) = let u = f .under in in-start (u .row) (f .among) (u .source) (u .below)
 
   pub fault-path : (r : ℕ) → PathFault s r → Paths s r
   fault-path r (in-attribute p n k b) = inl (inl (record { under = record { row = p; source = k; below = b }; among = n }))
-  fault-path r (in-repeated-pair p q e n b k d) =
-      inl (inr (record { under = record { row = p; source = record { pair = n; repeated = record { row = q; source = k; below = d } }; below = b }; among = eq-eqb _ _ e }))
+  fault-path r (in-repeated-sharing p q e n b k d) =
+      inl (inr (record { under = record { row = p; source = record { sharing = n; repeated = record { row = q; source = k; below = d } }; below = b }; among = eq-eqb _ _ e }))
   fault-path r (in-except p n k b) = inr (inl (record { under = record { row = p; source = k; below = b }; among = n }))
   fault-path r (in-start p n k b) = inr (inr (record { under = record { row = p; source = k; below = b }; among = n }))

@@ -11,15 +11,15 @@ use Rattle.schema.specs.Rows.{kindOf}
 use Rattle.schema.specs.Marks.{Marked}
 use Rattle.places.specs.Marks.{Under}
 use Rattle.places.specs.Sources.{HasKind}
-use Rattle.places.specs.Paths.{isPair, notInAttribute, notInExcept, notInStart}
+use Rattle.places.specs.Paths.{sharingKind, notInAttribute, notInExcept, notInStart}
 use Rattle.prohibited.specs.declared.Kinds.{Kinds}
-use Rattle.prohibited.specs.declared.Kinds.the-variants.{NotInAnyName, NotInNsName, NotInAttribute, NotInPair, NotInExcept, NotInStart}
+use Rattle.prohibited.specs.declared.Kinds.the-variants.{NotInAnyName, NotInNsName, NotInAttribute, NotInRepeated, NotInExcept, NotInStart}
 
 abbrev pub inKinds : Kinds → ℕ → Bool
 inKinds NotInAnyName k = eqb k kind.anyName
 inKinds NotInNsName k = eqb k kind.anyName || eqb k kind.nsName
 inKinds NotInAttribute k = notInAttribute k
-inKinds NotInPair k = eqb k kind.attribute
+inKinds NotInRepeated k = eqb k kind.attribute
 inKinds NotInExcept k = notInExcept k
 inKinds NotInStart k = notInStart k
 
@@ -34,8 +34,8 @@ pub record Prohibited (s : List ℕ) (S : ℕ → Type 0) (kinds : Kinds) (r : �
   pub among : inKinds kinds (kindOf s r) ≡ true
 
 -- the groups and interleaves below a oneOrMore
-pub record RepeatedPair (s : List ℕ) (p : ℕ) : Type 0 where
-  pub pair : isPair (kindOf s p) ≡ true
+pub record RepeatedSharing (s : List ℕ) (p : ℕ) : Type 0 where
+  pub sharing : sharingKind (kindOf s p) ≡ true
   pub repeated : Under s (HasKind s kind.oneOrMore) p
 
 abbrev pub earliest : Checked → Checked → Checked

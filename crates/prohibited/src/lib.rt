@@ -10,14 +10,14 @@ ghost use Rattle.schema.specs.Rows.{rowsOf};
 ghost use Rattle.places.specs.Sources.{HasKind};
 ghost use Rattle.places.specs.Names.{NameFault};
 ghost use Rattle.places.specs.Paths.{notInAttribute, notInExcept, notInStart, PathFault};
-ghost use Rattle.prohibited.specs.Prohibited.{inKinds, MarkedKind, Prohibited, RepeatedPair, earliest};
+ghost use Rattle.prohibited.specs.Prohibited.{inKinds, MarkedKind, Prohibited, RepeatedSharing, earliest};
 
 // What may not stand below an anyName, an nsName, an attribute, a group or interleave in a oneOrMore, a data, the start.
 enum Kinds {
     NotInAnyName,
     NotInNsName,
     NotInAttribute,
-    NotInPair,
+    NotInRepeated,
     NotInExcept,
     NotInStart,
 }
@@ -34,7 +34,7 @@ fn not_in_except(kind: u32) -> bool
     (kind == schema::ATTRIBUTE)
         | (kind == schema::REF)
         | (kind == schema::TEXT)
-        | places::is_pair(kind)
+        | places::is_sharing(kind)
         | (kind == schema::ONE_OR_MORE)
         | (kind == schema::EMPTY)
 }
@@ -46,7 +46,7 @@ fn not_in_start(kind: u32) -> bool
         | (kind == schema::DATA)
         | (kind == schema::VALUE)
         | (kind == schema::TEXT)
-        | places::is_pair(kind)
+        | places::is_sharing(kind)
         | (kind == schema::ONE_OR_MORE)
         | (kind == schema::EMPTY)
 }
@@ -58,7 +58,7 @@ fn in_kinds(kinds: Kinds, kind: u32) -> bool
         Kinds::NotInAnyName => kind == schema::ANY_NAME,
         Kinds::NotInNsName => (kind == schema::ANY_NAME) | (kind == schema::NS_NAME),
         Kinds::NotInAttribute => not_in_attribute(kind),
-        Kinds::NotInPair => kind == schema::ATTRIBUTE,
+        Kinds::NotInRepeated => kind == schema::ATTRIBUTE,
         Kinds::NotInExcept => not_in_except(kind),
         Kinds::NotInStart => not_in_start(kind),
     }
@@ -107,7 +107,7 @@ fn first_below(schema: &[u32], above: u32, kinds: Kinds) -> Checked
 // The first attribute below a group or interleave that is below a oneOrMore.
 fn first_repeated(schema: &[u32]) -> Checked
     requires { ⌜ rowsOf (now schema) ≤ maxRows ⌝ }
-    ensures { λ r. ⌜ Finds (Prohibited (now (schema .entry)) (RepeatedPair (now (schema .entry))) Kinds.NotInPair) r ⌝ }
+    ensures { λ r. ⌜ Finds (Prohibited (now (schema .entry)) (RepeatedSharing (now (schema .entry))) Kinds.NotInRepeated) r ⌝ }
 {
     let mut repeated = [0u32; schema::MAX_ROWS];
     places::mark_below(
@@ -117,8 +117,8 @@ fn first_repeated(schema: &[u32]) -> Checked
         &mut repeated,
     );
     let mut below = [0u32; schema::MAX_ROWS];
-    places::mark_below(schema, Source::MarkedPair, &repeated, &mut below);
-    first_marked(schema, &below, Kinds::NotInPair)
+    places::mark_below(schema, Source::MarkedSharing, &repeated, &mut below);
+    first_marked(schema, &below, Kinds::NotInRepeated)
 }
 
 // The first row on a prohibited path.

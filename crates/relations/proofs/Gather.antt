@@ -7,8 +7,8 @@ use Prim.Native.Nat.{ℕ, _-_, _^_, _<_}
 use native.Mathlib.Omega.{arith}
 use lib.Bits.{bitAnd, bitOr}
 use lib.ListN.{getD}
-use Rattle.sets.specs.Bits.{bit, Least, FirstOf}
-use Rattle.relations.specs.Words.{Holds, Image}
+use Rattle.sets.specs.Bits.{bit, LeastMember, FirstOf}
+use Rattle.relations.specs.Words.{WordsRelate, Image}
 use Rattle.sets.proofs.Members.{none-has, or-has, has-or-l, has-or-r}
 use Rattle.sets.proofs.Least.{first-least, rest-lt, rest-has, has-rest}
 
@@ -16,8 +16,8 @@ use Rattle.sets.proofs.Least.{first-least, rest-lt, rest-has, has-rest}
 pub record Gathered (s : ℕ) (ws : List ℕ) (out rest : ℕ) : Type 0 where
   pub fits : rest < 2 ^ 64
   pub within : (h : ℕ) → bit rest h ≡ true → bit s h ≡ true
-  pub sound : (j : ℕ) → bit out j ≡ true → (h : ℕ) × (bit s h ≡ true) × Holds ws h j
-  pub complete : (h j : ℕ) → bit s h ≡ true → Holds ws h j → (bit rest h ≡ true) ⊎ (bit out j ≡ true)
+  pub sound : (j : ℕ) → bit out j ≡ true → (h : ℕ) × (bit s h ≡ true) × WordsRelate ws h j
+  pub complete : (h j : ℕ) → bit s h ≡ true → WordsRelate ws h j → (bit rest h ≡ true) ⊎ (bit out j ≡ true)
 
 pub gather-none : {s : ℕ} (ws : List ℕ) → s < 2 ^ 64 → Gathered s ws 0 s
 gather-none ws f = record { fits = f; within = λ h e. e; sound = λ j e. absurd (none-has j e); complete = λ h j e x. inl e }
@@ -30,10 +30,10 @@ gather-more {s} {ws} {out} {rest} {first} {word} g p f w = record {
   complete = λ h j e x. ⊎-elim (λ r. still h j x (has-rest rest least h p (g .fits) r)) (λ o. inr (has-or-l out word j o)) (g .complete h j e x);
 }
   where
-    least : Least rest first
+    least : LeastMember rest first
     least = first-least f p
 
-    still : (h j : ℕ) → Holds ws h j → (h ≡ first) ⊎ (bit (bitAnd rest (rest - 1)) h ≡ true) → (bit (bitAnd rest (rest - 1)) h ≡ true) ⊎ (bit (bitOr out word) j ≡ true)
+    still : (h j : ℕ) → WordsRelate ws h j → (h ≡ first) ⊎ (bit (bitAnd rest (rest - 1)) h ≡ true) → (bit (bitAnd rest (rest - 1)) h ≡ true) ⊎ (bit (bitOr out word) j ≡ true)
     still h j x (inl q) = inr (has-or-r out word j (ap (λ (v : ℕ). bit v j) (w ∙ ap (λ (n : ℕ). getD ws n 0) (sym q)) ∙ x))
     still h j x (inr r) = inl r
 

@@ -12,7 +12,7 @@ use lib.Seq.{getD-set-same, getD-set-other, getD-take, getD-drop, drop-drop, dro
 use Rattle.tables.proofs.Numbers.{not-less}
 use Rattle.sets.specs.Bits.{positions, bit}
 use Rattle.relations.specs.Relations.{Relation}
-use Rattle.relations.specs.Words.{Holds, Is, front, next, Room, Rest, Up}
+use Rattle.relations.specs.Words.{WordsRelate, Is, front, next, WordRoom, Rest, Up}
 use Rattle.sets.proofs.Bits.{bit-ext}
 use Rattle.sets.proofs.Members.{none-has}
 
@@ -20,7 +20,7 @@ pub is-map : {ws : List ℕ} {R S : Relation} → Is ws R → ((i j : ℕ) → R
 is-map is same = record { sound = λ i j e. same i j .0 (is .sound i j e); complete = λ i j s. is .complete i j (same i j .1 s) }
 
 -- words that hold a relation that goes up go up
-pub is-up : {ws : List ℕ} {R : Relation} → Is ws R → Up R → Up (Holds ws)
+pub is-up : {ws : List ℕ} {R : Relation} → Is ws R → Up R → Up (WordsRelate ws)
 is-up is up i j e = up i j (is .sound i j e)
 
 same-bool : (x y : Bool) → (x ≡ true → y ≡ true) → (y ≡ true → x ≡ true) → x ≡ y
@@ -37,7 +37,7 @@ is-unique {a} {b} x y l =
 -- ---- the words of the first relation, and of the next
 
 -- a word that has a member is one of the list's
-word-below : (ws : List ℕ) (i j : ℕ) → Holds ws i j → i < length ws
+word-below : (ws : List ℕ) (i j : ℕ) → WordsRelate ws i j → i < length ws
 word-below ws i j e = go (decLt i (length ws))
   where
     go : Dec (i < length ws) → i < length ws
@@ -45,7 +45,7 @@ word-below ws i j e = go (decLt i (length ws))
     go (no f) = absurd (none-has j (sym (ap (λ (x : ℕ). bit x j) (List·getD-eq-default ws 0 (not-less f))) ∙ e))
 
 module _ (m : ℕ) (w : List ℕ) (i : ℕ) where
-  pub front-below : (j : ℕ) → Holds (front m w) i j → i < m
+  pub front-below : (j : ℕ) → WordsRelate (front m w) i j → i < m
   front-below j e = omega (arith, word-below (front m w) i j e, length-take m w)
 
   pub front-at : i < m → getD (front m w) i 0 ≡ getD w i 0
@@ -54,7 +54,7 @@ module _ (m : ℕ) (w : List ℕ) (i : ℕ) where
   pub next-at : i < m → getD (next m w) i 0 ≡ getD w (positions + i) 0
   next-at h = getD-take m (drop positions w) i 0 h ∙ getD-drop positions w i 0
 
-pub room-front : {m : ℕ} {w : List ℕ} → Room m (positions + m) w → Room m m w
+pub room-front : {m : ℕ} {w : List ℕ} → WordRoom m (positions + m) w → WordRoom m m w
 room-front r = record { few = r .few; room = omega (arith, r .room) }
 
 -- ---- the words from m on
@@ -81,17 +81,17 @@ pub record Row (R : Relation) (i v : ℕ) : Type 0 where
   pub complete : (j : ℕ) → R i j → bit v j ≡ true
 
 -- of the first m words those from i on are those of R, the others are as they were, and so are the words from m on
-pub record Written (m : ℕ) (R : Relation) (w₀ w : List ℕ) (i : ℕ) : Type 0 where
-  pub given : Room m m w₀
+pub record WrittenWords (m : ℕ) (R : Relation) (w₀ w : List ℕ) (i : ℕ) : Type 0 where
+  pub given : WordRoom m m w₀
   pub within : i ≤ m
   pub before : (k : ℕ) → k < i → getD w k 0 ≡ getD w₀ k 0
   pub rest : Rest m w₀ w
   pub rows : (k : ℕ) → i ≤ k → k < m → Row R k (getD w k 0)
 
-pub write-none : {m : ℕ} {R : Relation} {w : List ℕ} → Room m m w → Written m R w w m
+pub write-none : {m : ℕ} {R : Relation} {w : List ℕ} → WordRoom m m w → WrittenWords m R w w m
 write-none f = record { given = f; within = omega arith; before = λ k h. refl; rest = record { size = refl; past = refl }; rows = λ k h n. absurd (omega arith) }
 
-pub write-more : {m : ℕ} {R : Relation} {w₀ w : List ℕ} {i k v : ℕ} → Written m R w₀ w i → i ≡ k + 1 → Row R k v → Written m R w₀ (set w k v) k
+pub write-more : {m : ℕ} {R : Relation} {w₀ w : List ℕ} {i k v : ℕ} → WrittenWords m R w₀ w i → i ≡ k + 1 → Row R k v → WrittenWords m R w₀ (set w k v) k
 write-more {m} {R} {w₀} {w} {i} {k} {v} g e row = record {
   given = g .given;
   within = omega (arith, g .within);
@@ -107,16 +107,16 @@ write-more {m} {R} {w₀} {w} {i} {k} {v} g e row = record {
     there n l h = subst (Row R n) (sym (getD-set-other w k n v 0 (λ q. omega (arith, q, h)))) (g .rows n (omega (arith, e, h)) l)
 
 -- the next relation is as it was, and so is a word of it
-pub next-kept : {m : ℕ} {R : Relation} {w₀ w : List ℕ} {i : ℕ} → Written m R w₀ w i → drop positions w ≡ drop positions w₀
+pub next-kept : {m : ℕ} {R : Relation} {w₀ w : List ℕ} {i : ℕ} → WrittenWords m R w₀ w i → drop positions w ≡ drop positions w₀
 next-kept {m} {w₀ = w₀} {w = w} g = sym (past w) ∙ ap (drop (positions - m)) (g .rest .past) ∙ past w₀
   where
     past : (l : List ℕ) → drop (positions - m) (drop m l) ≡ drop positions l
     past l = let n : m + (positions - m) ≡ positions = omega (arith, g .given .few) in drop-drop (positions - m) m l ∙ ap (λ (n : ℕ). drop n l) n
 
-pub kept : {m : ℕ} {R : Relation} {w₀ w : List ℕ} {i : ℕ} (g : Written m R w₀ w i) (k : ℕ) → getD w (positions + k) 0 ≡ getD w₀ (positions + k) 0
+pub kept : {m : ℕ} {R : Relation} {w₀ w : List ℕ} {i : ℕ} (g : WrittenWords m R w₀ w i) (k : ℕ) → getD w (positions + k) 0 ≡ getD w₀ (positions + k) 0
 kept {w₀ = w₀} {w = w} g k = sym (getD-drop positions w k 0) ∙ ap (λ (l : List ℕ). getD l k 0) (next-kept g) ∙ getD-drop positions w₀ k 0
 
-pub written : {m : ℕ} {R : Relation} {w₀ w : List ℕ} {i : ℕ} → Written m R w₀ w i → i ≤ 0 → ((k j : ℕ) → R k j → k < m) → Is (front m w) R
+pub written : {m : ℕ} {R : Relation} {w₀ w : List ℕ} {i : ℕ} → WrittenWords m R w₀ w i → i ≤ 0 → ((k j : ℕ) → R k j → k < m) → Is (front m w) R
 written {m} {R} {w₀} {w} {i} g z low = record {
   sound = λ k j e. let l = front-below m w k j e in g .rows k (omega arith) l .sound j (sym (ap (λ (x : ℕ). bit x j) (front-at m w k l)) ∙ e);
   complete = λ k j r. let l = low k j r in ap (λ (x : ℕ). bit x j) (front-at m w k l) ∙ g .rows k (omega arith) l .complete j r;

@@ -8,18 +8,18 @@ use Rattle.sets.specs.Bits.{positions, bit}
 use Rattle.relations.specs.Relations.{Relation}
 
 -- the relation that words hold; a word past the end is the empty set
-abbrev pub Holds : List ℕ → Relation
-Holds ws i j = bit (getD ws i 0) j ≡ true
+abbrev pub WordsRelate : List ℕ → Relation
+WordsRelate ws i j = bit (getD ws i 0) j ≡ true
 
 -- the words hold R
 pub record Is (ws : List ℕ) (R : Relation) : Type 0 where
-  pub sound : (i j : ℕ) → Holds ws i j → R i j
-  pub complete : (i j : ℕ) → R i j → Holds ws i j
+  pub sound : (i j : ℕ) → WordsRelate ws i j → R i j
+  pub complete : (i j : ℕ) → R i j → WordsRelate ws i j
 
 -- r is the set of the positions that the words relate a member of s to
 pub record Image (s : ℕ) (ws : List ℕ) (r : ℕ) : Type 0 where
-  pub sound : (j : ℕ) → bit r j ≡ true → (h : ℕ) × (bit s h ≡ true) × Holds ws h j
-  pub complete : (h j : ℕ) → bit s h ≡ true → Holds ws h j → bit r j ≡ true
+  pub sound : (j : ℕ) → bit r j ≡ true → (h : ℕ) × (bit s h ≡ true) × WordsRelate ws h j
+  pub complete : (h j : ℕ) → bit s h ≡ true → WordsRelate ws h j → bit r j ≡ true
 
 -- the first relation of a lent run of words, and the next, which starts at the same word for any m
 abbrev pub front : ℕ → List ℕ → List ℕ
@@ -29,7 +29,7 @@ abbrev pub next : ℕ → List ℕ → List ℕ
 next m w = take m (drop positions w)
 
 -- the m positions are positions of a word, and there are as many words as a function goes over
-pub record Room (m words : ℕ) (w : List ℕ) : Type 0 where
+pub record WordRoom (m words : ℕ) (w : List ℕ) : Type 0 where
   pub few : m ≤ positions
   pub room : words ≤ length w
 

@@ -6,7 +6,7 @@ ghost use Prim.Native.Nat.{_+_, _^_, _<_};
 ghost use lib.Bits.{bitOr};
 ghost use Rattle.sets.specs.Bits.{positions, bit};
 ghost use Rattle.relations.specs.Relations.{Or, And, Then, Plus};
-ghost use Rattle.relations.specs.Words.{Holds, Is, Image, front, next, Room, Rest, Up, Empty, Gap, Single};
+ghost use Rattle.relations.specs.Words.{WordsRelate, Is, Image, front, next, WordRoom, Rest, Up, Empty, Gap, Single};
 
 // The union of the words of b at the members of s.
 pub fn image(s: u64, b: &[u64]) -> u64
@@ -23,7 +23,7 @@ pub fn image(s: u64, b: &[u64]) -> u64
 
 // The empty relation.
 pub fn clear(m: u32, w: &mut [u64])
-    requires { ⌜ Room m m (now w) ⌝ }
+    requires { ⌜ WordRoom m m (now w) ⌝ }
     ensures { λ _. ⌜ Is (front m (now (w .exit))) Empty ⌝ }
     ensures rest { λ _. ⌜ Rest m (now (w .entry)) (now (w .exit)) ⌝ }
 {
@@ -47,7 +47,7 @@ fn gap_word(stop: u64, i: u32, after: u64) -> u64
 
 // The pairs i, j with no position of stop in [i, j).
 pub fn gaps(m: u32, stop: u64, w: &mut [u64])
-    requires { ⌜ Room m m (now w) ⌝ }
+    requires { ⌜ WordRoom m m (now w) ⌝ }
     ensures { λ _. ⌜ Is (front m (now (w .exit))) (Gap m stop) ⌝ }
     ensures rest { λ _. ⌜ Rest m (now (w .entry)) (now (w .exit)) ⌝ }
 {
@@ -75,7 +75,7 @@ fn single_word(all: u64, marked: u64, i: u32, gap: u64, single: u64) -> u64
 
 // The pairs i, j with exactly one position of all in [i, j), a marked one.
 pub fn singles(m: u32, all: u64, marked: u64, w: &mut [u64])
-    requires { ⌜ Room m m (now w) ⌝ }
+    requires { ⌜ WordRoom m m (now w) ⌝ }
     ensures { λ _. ⌜ Is (front m (now (w .exit))) (Single m all marked) ⌝ }
     ensures rest { λ _. ⌜ Rest m (now (w .entry)) (now (w .exit)) ⌝ }
 {
@@ -92,8 +92,8 @@ pub fn singles(m: u32, all: u64, marked: u64, w: &mut [u64])
 
 // The first relation or the next.
 pub fn union(m: u32, w: &mut [u64])
-    requires { ⌜ Room m (positions + m) (now w) ⌝ }
-    ensures { λ _. ⌜ Is (front m (now (w .exit))) (Or (Holds (front m (now (w .entry)))) (Holds (next m (now (w .entry))))) ⌝ }
+    requires { ⌜ WordRoom m (positions + m) (now w) ⌝ }
+    ensures { λ _. ⌜ Is (front m (now (w .exit))) (Or (WordsRelate (front m (now (w .entry)))) (WordsRelate (next m (now (w .entry))))) ⌝ }
     ensures rest { λ _. ⌜ Rest m (now (w .entry)) (now (w .exit)) ⌝ }
 {
     let mut i = m as usize;
@@ -105,8 +105,8 @@ pub fn union(m: u32, w: &mut [u64])
 
 // The first relation and the next, of the same pairs.
 pub fn meet(m: u32, w: &mut [u64])
-    requires { ⌜ Room m (positions + m) (now w) ⌝ }
-    ensures { λ _. ⌜ Is (front m (now (w .exit))) (And (Holds (front m (now (w .entry)))) (Holds (next m (now (w .entry))))) ⌝ }
+    requires { ⌜ WordRoom m (positions + m) (now w) ⌝ }
+    ensures { λ _. ⌜ Is (front m (now (w .exit))) (And (WordsRelate (front m (now (w .entry)))) (WordsRelate (next m (now (w .entry))))) ⌝ }
     ensures rest { λ _. ⌜ Rest m (now (w .entry)) (now (w .exit)) ⌝ }
 {
     let mut i = m as usize;
@@ -118,8 +118,8 @@ pub fn meet(m: u32, w: &mut [u64])
 
 // The first relation, then the next.
 pub fn compose(m: u32, w: &mut [u64])
-    requires { ⌜ Room m (positions + m) (now w) ⌝ }
-    ensures { λ _. ⌜ Is (front m (now (w .exit))) (Then (Holds (front m (now (w .entry)))) (Holds (next m (now (w .entry))))) ⌝ }
+    requires { ⌜ WordRoom m (positions + m) (now w) ⌝ }
+    ensures { λ _. ⌜ Is (front m (now (w .exit))) (Then (WordsRelate (front m (now (w .entry)))) (WordsRelate (next m (now (w .entry))))) ⌝ }
     ensures rest { λ _. ⌜ Rest m (now (w .entry)) (now (w .exit)) ⌝ }
 {
     let mut i = m as usize;
@@ -133,8 +133,8 @@ pub fn compose(m: u32, w: &mut [u64])
 
 // One or more steps of a relation that goes up: the words after i are closed before word i is.
 pub fn close(m: u32, w: &mut [u64])
-    requires { ⌜ Room m m (now w) × Up (Holds (front m (now w))) ⌝ }
-    ensures { λ _. ⌜ Is (front m (now (w .exit))) (Plus (Holds (front m (now (w .entry))))) ⌝ }
+    requires { ⌜ WordRoom m m (now w) × Up (WordsRelate (front m (now w))) ⌝ }
+    ensures { λ _. ⌜ Is (front m (now (w .exit))) (Plus (WordsRelate (front m (now (w .entry))))) ⌝ }
     ensures rest { λ _. ⌜ Rest m (now (w .entry)) (now (w .exit)) ⌝ }
 {
     let end = m as usize;

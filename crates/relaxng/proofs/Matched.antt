@@ -23,17 +23,17 @@ use Rattle.instance.proofs.Size.{few-nodes}
 use Rattle.rules.specs.Job.{Valid}
 use Rattle.rules.proofs.Uniqueness.{unique}
 use Rattle.pairs.specs.Pairs.{TablesPass, Pairable}
-use Rattle.matches.specs.MatchList.{MatchList, Written, Answers}
+use Rattle.matches.specs.MatchList.{MatchList, ListWritten, ListAnswer}
 use Rattle.matches.specs.declared.Answer.{Answer}
 use Rattle.matches.specs.declared.Answer.the-variants as answer
 use Rattle.relaxng.specs.Promises.{SchemaRefusal}
 use Rattle.relaxng.specs.Matching.{InstanceRefusal, GivesVerdict, ListTooShort, ListsMatches}
-use Rattle.relaxng.specs.Answers.{matchesVerdict, isMatched, pairCount, validationOf, matchesOf}
+use Rattle.relaxng.specs.Answers.{matchVerdict, isMatched, pairCount, validationOf, matchAnswer}
 use Rattle.relaxng.specs.declared.Validation.{Validation}
 use Rattle.relaxng.specs.declared.Validation.the-variants.{NotValidated}
-use Rattle.relaxng.specs.declared.Matches.{Matches}
-use Rattle.relaxng.specs.declared.Matches.the-variants as matches
-use Rattle.relaxng.specs.declared.Matches.the-variants.{NotMatched}
+use Rattle.relaxng.specs.declared.MatchAnswer.{MatchAnswer}
+use Rattle.relaxng.specs.declared.MatchAnswer.the-variants as matches
+use Rattle.relaxng.specs.declared.MatchAnswer.the-variants.{NotMatched}
 use Rattle.relaxng.proofs.Refused.{refused-passed, schema-refused, schema-passed, tries-coded, passes-coded, schema-coded, refused-same}
 
 -- the table of pairs that the calls lend has an entry for every instance row and every schema row
@@ -116,14 +116,14 @@ no-shorter all fit i x =
 
 module _ {J : Tables} {v : Verdict} (r : InstanceRefusal J Passes v) (room : ℕ) {list : List ℕ} where
   -- codes 1 to 10
-  pub refused-list : {code place c p : ℕ} {a : Matches} → v ≡ Refused code place → c ≡ codeOf v → p ≡ placeOf v → a ≡ NotMatched c p → list ≡ zeros room → ListsMatches J room list a
+  pub refused-list : {code place c p : ℕ} {a : MatchAnswer} → v ≡ Refused code place → c ≡ codeOf v → p ≡ placeOf v → a ≡ NotMatched c p → list ≡ zeros room → ListsMatches J room list a
   refused-list {c = c} {p = p} e f g h z =
       let same : InstanceRefusal J (Tries 12 (ListTooShort J room) Passes) (Refused c p) = subst (InstanceRefusal J (Tries 12 (ListTooShort J room) Passes)) (refused-same e f g) (instance-refused e r) in
       let coded = instance-coded (tries-coded (omega arith) passes-coded) same in
       rw h (record { refusal = same; matched = λ q. absurd (omega arith); zeroed = λ n. z })
 
   module _ (e : v ≡ Passed) where
-    passed-list : (a : Matches) → matchesVerdict a ≡ Passed → {l : List (ℕ × ℕ)} → MatchList J l → Written J l room list (pairCount a) (isMatched a) → ListsMatches J room list a
+    passed-list : (a : MatchAnswer) → matchVerdict a ≡ Passed → {l : List (ℕ × ℕ)} → MatchList J l → ListWritten J l room list (pairCount a) (isMatched a) → ListsMatches J room list a
     passed-list a p {l} all w = record {
       refusal = instance-passed e r (goes-on (no-shorter all (w .fit)) p);
       matched = λ q. record { pairs = l; all = all; written = w };
@@ -131,10 +131,10 @@ module _ {J : Tables} {v : Verdict} (r : InstanceRefusal J Passes v) (room : ℕ
     }
 
     -- code 12, or nothing is refused
-    pub whole-list : (x : Answer) → Answers J room list x → {a : Matches} → a ≡ matchesOf x → ListsMatches J room list a
+    pub whole-list : (x : Answer) → ListAnswer J room list x → {a : MatchAnswer} → a ≡ matchAnswer x → ListsMatches J room list a
     whole-list x answers f = rw f (go x answers)
       where
-        go : (x : Answer) → Answers J room list x → ListsMatches J room list (matchesOf x)
+        go : (x : Answer) → ListAnswer J room list x → ListsMatches J room list (matchAnswer x)
         go (answer.Valid number) y = passed-list (matches.Valid number) refl (y .all) (y .says)
         go (answer.NotValid number) y = passed-list (matches.NotValid number) refl (y .all) (y .says)
         go answer.TooShort y = record {

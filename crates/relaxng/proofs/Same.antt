@@ -13,10 +13,10 @@ use Rattle.tables.specs.declared.Verdict.the-variants.{Passed, Refused}
 use Rattle.jobs.proofs.Decimals.{lt-or-ge}
 use Rattle.rules.specs.Listed.{pairWords}
 use Rattle.rules.proofs.Uniqueness.{unique}
-use Rattle.relaxng.specs.Answers.{matchesVerdict, pairCount}
+use Rattle.relaxng.specs.Answers.{matchVerdict, pairCount}
 use Rattle.relaxng.specs.Matching.{InstanceRefusal, Matched, ListsMatches, ListTooShort}
-use Rattle.relaxng.specs.declared.Matches.{Matches}
-use Rattle.relaxng.specs.declared.Matches.the-variants.{Valid, NotValid, NotMatched}
+use Rattle.relaxng.specs.declared.MatchAnswer.{MatchAnswer}
+use Rattle.relaxng.specs.declared.MatchAnswer.the-variants.{Valid, NotValid, NotMatched}
 use Rattle.relaxng.proofs.Refused.{refused-passed, tries-coded, passes-coded}
 use Rattle.relaxng.proofs.Matched.{instance-coded}
 
@@ -27,8 +27,8 @@ tries-same f (refused p x c) (goes-on n y) = absurd (n p x)
 tries-same f (goes-on n x) (refused q y d) = absurd (n q y)
 tries-same f (goes-on n x) (goes-on m y) = f x y
 
-module _ {J : Tables} {room : ℕ} {l m : List ℕ} {r q : Matches} (a : ListsMatches J room l r) (b : ListsMatches J room m q) where
-  same-verdict : matchesVerdict r ≡ matchesVerdict q
+module _ {J : Tables} {room : ℕ} {l m : List ℕ} {r q : MatchAnswer} (a : ListsMatches J room l r) (b : ListsMatches J room m q) where
+  same-verdict : matchVerdict r ≡ matchVerdict q
   same-verdict = tries-same (tries-same (tries-same (tries-same (tries-same (tries-same (tries-same (tries-same (tries-same (tries-same (tries-same (λ x y. x ∙ sym y))))))))))) (a .refusal) (b .refusal)
 
   module _ (x : Matched J room l r) (y : Matched J room m q) where
@@ -46,7 +46,7 @@ coded-code : {J : Tables} {room c p : ℕ} {l : List ℕ} → ListsMatches J roo
 coded-code a e = let h = instance-coded (tries-coded (omega arith) passes-coded) (a .refusal) in omega arith
 
 -- an answer that refuses nothing is its count and valid or not
-pub same-answer : {J : Tables} {room : ℕ} {l m : List ℕ} (r q : Matches) → ListsMatches J room l r → ListsMatches J room m q → (r ≡ q) × (l ≡ m)
+pub same-answer : {J : Tables} {room : ℕ} {l m : List ℕ} (r q : MatchAnswer) → ListsMatches J room l r → ListsMatches J room m q → (r ≡ q) × (l ≡ m)
 same-answer (NotMatched c p) (NotMatched d k) a b =
     let e = same-verdict a b in
     let x : c ≡ d = cc e in

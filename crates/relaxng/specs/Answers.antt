@@ -9,9 +9,9 @@ use Rattle.relaxng.specs.declared.CommonName.{CommonName}
 use Rattle.relaxng.specs.declared.CommonName.the-variants.{Least, None, NotSought}
 use Rattle.relaxng.specs.declared.Validation.{Validation}
 use Rattle.relaxng.specs.declared.Validation.the-variants.{Valid, NotValid, NotValidated}
-use Rattle.relaxng.specs.declared.Matches.{Matches}
-use Rattle.relaxng.specs.declared.Matches.the-variants as matches
-use Rattle.relaxng.specs.declared.Matches.the-variants.{NotMatched}
+use Rattle.relaxng.specs.declared.MatchAnswer.{MatchAnswer}
+use Rattle.relaxng.specs.declared.MatchAnswer.the-variants as matches
+use Rattle.relaxng.specs.declared.MatchAnswer.the-variants.{NotMatched}
 use Rattle.matches.specs.declared.Answer.{Answer}
 use Rattle.matches.specs.declared.Answer.the-variants as answer
 use Rattle.classes.specs.declared.Found.{Found}
@@ -33,10 +33,10 @@ validationVerdict Valid = Passed
 validationVerdict NotValid = Passed
 validationVerdict (NotValidated code place) = Refused code place
 
-abbrev pub matchesVerdict : Matches → Verdict
-matchesVerdict (matches.Valid pairs) = Passed
-matchesVerdict (matches.NotValid pairs) = Passed
-matchesVerdict (NotMatched code place) = Refused code place
+abbrev pub matchVerdict : MatchAnswer → Verdict
+matchVerdict (matches.Valid pairs) = Passed
+matchVerdict (matches.NotValid pairs) = Passed
+matchVerdict (NotMatched code place) = Refused code place
 
 -- what it answers; no, none or 0 beside a refusal
 abbrev pub isYes : Membership → Bool
@@ -54,12 +54,12 @@ isValid Valid = true
 isValid NotValid = false
 isValid (NotValidated code place) = false
 
-abbrev pub isMatched : Matches → Bool
+abbrev pub isMatched : MatchAnswer → Bool
 isMatched (matches.Valid pairs) = true
 isMatched (matches.NotValid pairs) = false
 isMatched (NotMatched code place) = false
 
-abbrev pub pairCount : Matches → ℕ
+abbrev pub pairCount : MatchAnswer → ℕ
 pairCount (matches.Valid pairs) = pairs
 pairCount (matches.NotValid pairs) = pairs
 pairCount (NotMatched code place) = 0
@@ -70,10 +70,10 @@ commonName (Name namespace local) = Least namespace local
 commonName Nothing = None
 
 -- the answer where no code below 12 refuses
-abbrev pub matchesOf : Answer → Matches
-matchesOf (answer.Valid pairs) = matches.Valid pairs
-matchesOf (answer.NotValid pairs) = matches.NotValid pairs
-matchesOf answer.TooShort = NotMatched 12 0
+abbrev pub matchAnswer : Answer → MatchAnswer
+matchAnswer (answer.Valid pairs) = matches.Valid pairs
+matchAnswer (answer.NotValid pairs) = matches.NotValid pairs
+matchAnswer answer.TooShort = NotMatched 12 0
 
 abbrev pub validationOf : Bool → Validation
 validationOf true = Valid

@@ -13,11 +13,11 @@ use Rattle.tables.specs.declared.Verdict.{Verdict}
 use Rattle.instance.specs.NodeRule.{NodeFault}
 use Rattle.instance.specs.Width.{WidthFault}
 use Rattle.rules.specs.Job.{Valid}
-use Rattle.matches.specs.MatchList.{MatchList, Written}
-use Rattle.relaxng.specs.Answers.{validationVerdict, matchesVerdict, isValid, isMatched, pairCount}
+use Rattle.matches.specs.MatchList.{MatchList, ListWritten}
+use Rattle.relaxng.specs.Answers.{validationVerdict, matchVerdict, isValid, isMatched, pairCount}
 use Rattle.relaxng.specs.Promises.{SchemaRefusal}
 use Rattle.relaxng.specs.declared.Validation.{Validation}
-use Rattle.relaxng.specs.declared.Matches.{Matches}
+use Rattle.relaxng.specs.declared.MatchAnswer.{MatchAnswer}
 
 -- codes 1 to 10, and after them what next says
 abbrev pub InstanceRefusal : Tables → (Verdict → Type 0) → Verdict → Type 0
@@ -33,13 +33,13 @@ abbrev pub ListTooShort : (J : Tables) (room place : ℕ) → Type 0
 ListTooShort J room place = (place ≡ 0) × (l : List (ℕ × ℕ)) × MatchList J l × (room < length l * 2)
 
 -- the match list in a buffer of so many words, the number of its pairs, and valid exactly when a derivation by (valid) of 9.4 exists
-pub record Matched (J : Tables) (room : ℕ) (list : List ℕ) (r : Matches) : Type 0 where
+pub record Matched (J : Tables) (room : ℕ) (list : List ℕ) (r : MatchAnswer) : Type 0 where
   pub pairs : List (ℕ × ℕ)
   pub all : MatchList J pairs
-  pub written : Written J pairs room list (pairCount r) (isMatched r)
+  pub written : ListWritten J pairs room list (pairCount r) (isMatched r)
 
 -- the whole promise: where nothing is refused the list, and zeros throughout otherwise
-pub record ListsMatches (J : Tables) (room : ℕ) (list : List ℕ) (r : Matches) : Type 0 where
-  pub refusal : InstanceRefusal J (Tries 12 (ListTooShort J room) Passes) (matchesVerdict r)
-  pub matched : codeOf (matchesVerdict r) ≡ 0 → Matched J room list r
-  pub zeroed : codeOf (matchesVerdict r) ≢ 0 → list ≡ zeros room
+pub record ListsMatches (J : Tables) (room : ℕ) (list : List ℕ) (r : MatchAnswer) : Type 0 where
+  pub refusal : InstanceRefusal J (Tries 12 (ListTooShort J room) Passes) (matchVerdict r)
+  pub matched : codeOf (matchVerdict r) ≡ 0 → Matched J room list r
+  pub zeroed : codeOf (matchVerdict r) ≢ 0 → list ≡ zeros room

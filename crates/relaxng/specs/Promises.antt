@@ -36,4 +36,4 @@ pub record NameInClass (T : StringTable) (s : List ℕ) (class namespace local :
 -- the least name that both classes hold or none, where nothing is refused
 pub record LeastCommonName (T : StringTable) (s : List ℕ) (first second : ℕ) (r : CommonName) : Type 0 where
   pub refusal : SchemaRefusal T s (Tries 11 (NoClass s first second) Passes) (commonVerdict r)
-  pub answer : codeOf (commonVerdict r) ≡ 0 → least.Least s first second (foundName r)
+  pub answer : codeOf (commonVerdict r) ≡ 0 → least.LeastCommon s first second (foundName r)

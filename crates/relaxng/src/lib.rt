@@ -7,7 +7,7 @@ ghost use mathlib.Core.Path.{_≡_};
 ghost use lib.ListN.{length};
 ghost use Rattle.tables.specs.Refusals.{Passes};
 ghost use Rattle.tables.specs.Tables.{stringTable, tablesOf};
-ghost use Rattle.relaxng.specs.Answers.{commonName, matchesOf};
+ghost use Rattle.relaxng.specs.Answers.{commonName, matchAnswer};
 ghost use Rattle.relaxng.specs.Matching.{InstanceRefusal, GivesVerdict, ListsMatches};
 ghost use Rattle.relaxng.specs.Promises.{SchemaRefusal, NameInClass, LeastCommonName};
 
@@ -33,7 +33,7 @@ pub enum Validation {
 }
 
 // Whether an instance is valid by a schema, with the number of pairs of the match list; or the refusal with its code and place.
-pub enum Matches {
+pub enum MatchAnswer {
     Valid(u32),
     NotValid(u32),
     NotMatched(u32, u32),
@@ -141,13 +141,13 @@ pub fn verdict(bytes: &[u8], ends: &[u32], schema: &[u32], instance: &[u32]) -> 
 }
 
 // The answer with the match list, where no code below 12 refuses: a list that is too short has code 12 at 0.
-fn matches_of(answer: Answer) -> Matches
-    ensures { λ r. ⌜ r ≡ matchesOf answer ⌝ }
+fn matches_of(answer: Answer) -> MatchAnswer
+    ensures { λ r. ⌜ r ≡ matchAnswer answer ⌝ }
 {
     match answer {
-        Answer::Valid(pairs) => Matches::Valid(pairs),
-        Answer::NotValid(pairs) => Matches::NotValid(pairs),
-        Answer::TooShort => Matches::NotMatched(12, 0),
+        Answer::Valid(pairs) => MatchAnswer::Valid(pairs),
+        Answer::NotValid(pairs) => MatchAnswer::NotValid(pairs),
+        Answer::TooShort => MatchAnswer::NotMatched(12, 0),
     }
 }
 
@@ -158,13 +158,13 @@ pub fn match_list(
     schema: &[u32],
     instance: &[u32],
     list: &mut [u32],
-) -> Matches
+) -> MatchAnswer
     ensures { λ r. ⌜ ListsMatches (tablesOf (stringTable (now (bytes .entry)) (now (ends .entry))) (now (schema .entry)) (now (instance .entry))) (length (now (list .entry))) (now (list .exit)) r ⌝ }
 {
     let passed = instance_verdict(bytes, ends, schema, instance);
     let Verdict::Passed = passed else {
         tables::zero_u32(list);
-        return Matches::NotMatched(tables::code_of(passed), tables::place_of(passed));
+        return MatchAnswer::NotMatched(tables::code_of(passed), tables::place_of(passed));
     };
     let mut pairs = [0u8; instance::MAX_NODES * schema::MAX_ROWS];
     matches_of(matches::match_pairs(bytes, ends, schema, instance, &mut pairs, list))

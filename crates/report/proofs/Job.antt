@@ -21,10 +21,10 @@ use Rattle.reader.specs.Promises.{fits, given, JobAnswer}
 use Rattle.reader.proofs.Answer.{readAnswer, one-answer}
 use Rattle.reader.specs.declared.JobRead.{JobRead}
 use Rattle.reader.specs.declared.JobRead.the-variants.{Read, NotRead}
-use Rattle.relaxng.specs.Answers.{matchesVerdict, pairCount}
+use Rattle.relaxng.specs.Answers.{matchVerdict, pairCount}
 use Rattle.tables.specs.Refusals.{codeOf}
 use Rattle.relaxng.specs.Matching.{ListsMatches, Matched}
-use Rattle.relaxng.specs.declared.Matches.{Matches}
+use Rattle.relaxng.specs.declared.MatchAnswer.{MatchAnswer}
 use Rattle.texts.specs.Writing.{TextIn}
 use Rattle.report.specs.Report.{listRoom, answerText, Reports, not-read, answered, Reported, Answered}
 
@@ -87,7 +87,7 @@ module _ {t : Tables} (l : Limited t) {bytes ends schema instance : List ℕ} (h
   instance-back = rw (h .of-instance, whole-nodes) (front-laid 5120 (t .instance) (let a = l .lengths .of-instance in let b = l .few-nodes in omega arith))
 
 -- the pairs of an answer fit the words that are lent
-pub pairs-fit : {J : Tables} {list : List ℕ} {r : Matches} {pairs : ℕ} → ListsMatches J listRoom list r → codeOf (matchesVerdict r) ≡ 0 → pairCount r ≡ pairs → pairs * 2 ≤ listRoom
+pub pairs-fit : {J : Tables} {list : List ℕ} {r : MatchAnswer} {pairs : ℕ} → ListsMatches J listRoom list r → codeOf (matchVerdict r) ≡ 0 → pairCount r ≡ pairs → pairs * 2 ≤ listRoom
 pairs-fit lists e f =
     let m = lists .matched e in
     let a = m .written .fit in
@@ -95,10 +95,10 @@ pairs-fit lists e f =
     omega arith
 
 -- the list that is lent has so many words
-pub lent-list : {J : Tables} {list : List ℕ} {r : Matches} → ListsMatches J (length (zeros listRoom)) list r → ListsMatches J listRoom list r
+pub lent-list : {J : Tables} {list : List ℕ} {r : MatchAnswer} → ListsMatches J (length (zeros listRoom)) list r → ListsMatches J listRoom list r
 lent-list {J} {list} {r} = subst (λ (room : ℕ). ListsMatches J room list r) (length-replicate {A = ℕ} 16384 0)
 
-pub is-answered : {J : Tables} {list out : List ℕ} {room n : ℕ} {r q : Matches} → ListsMatches J listRoom list r → r ≡ q → TextIn (answerText q list) room out n → Answered J room out n
+pub is-answered : {J : Tables} {list out : List ℕ} {room n : ℕ} {r q : MatchAnswer} → ListsMatches J listRoom list r → r ≡ q → TextIn (answerText q list) room out n → Answered J room out n
 is-answered {list = list} {r = r} lists e w = record { list = list; matches = r; lists = lists; written = rw e w }
 
 -- no more is answered than the output has room for

@@ -9,15 +9,15 @@ use Rattle.jobs.specs.Reading.{read, wrong, readJob}
 use Rattle.jobs.specs.Reported.{matchText, refusalText}
 use Rattle.texts.specs.Writing.{TextIn}
 use Rattle.relaxng.specs.Matching.{ListsMatches}
-use Rattle.relaxng.specs.declared.Matches.{Matches}
-use Rattle.relaxng.specs.declared.Matches.the-variants.{Valid, NotValid, NotMatched}
+use Rattle.relaxng.specs.declared.MatchAnswer.{MatchAnswer}
+use Rattle.relaxng.specs.declared.MatchAnswer.the-variants.{Valid, NotValid, NotMatched}
 
 -- the words that the program lends to the match list
 abbrev pub listRoom : ℕ
 listRoom = 16384
 
 -- the text of an answer, with the list that came with it
-abbrev pub answerText : Matches → List ℕ → List ℕ
+abbrev pub answerText : MatchAnswer → List ℕ → List ℕ
 answerText (Valid pairs) list = matchText true (take (pairs * 2) list)
 answerText (NotValid pairs) list = matchText false (take (pairs * 2) list)
 answerText (NotMatched code place) list = refusalText code place
@@ -25,7 +25,7 @@ answerText (NotMatched code place) list = refusalText code place
 -- the text of a job file: refused by 13 at its first wrong line, or the answer on the match list of its tables
 pub data Reports (file text : List ℕ) : Type 0 where
   not-read : (line : ℕ) → readJob file ≡ wrong line → text ≡ refusalText 13 line → Reports file text
-  answered : (t : Tables) (list : List ℕ) (r : Matches) → readJob file ≡ read t → ListsMatches t listRoom list r → text ≡ answerText r list → Reports file text
+  answered : (t : Tables) (list : List ℕ) (r : MatchAnswer) → readJob file ≡ read t → ListsMatches t listRoom list r → text ≡ answerText r list → Reports file text
 
 -- an output of so many bytes holds that text, with zeros after it, and n is its length
 pub record Reported (file : List ℕ) (room : ℕ) (out : List ℕ) (n : ℕ) : Type 0 where
@@ -36,6 +36,6 @@ pub record Reported (file : List ℕ) (room : ℕ) (out : List ℕ) (n : ℕ) : 
 -- the answer on tables, written
 pub record Answered (J : Tables) (room : ℕ) (out : List ℕ) (n : ℕ) : Type 0 where
   pub list : List ℕ
-  pub matches : Matches
+  pub matches : MatchAnswer
   pub lists : ListsMatches J listRoom list matches
   pub written : TextIn (answerText matches list) room out n

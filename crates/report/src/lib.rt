@@ -1,6 +1,6 @@
 // From the bytes of a job file to the bytes that `check` prints.
 use reader::JobRead;
-use relaxng::Matches;
+use relaxng::MatchAnswer;
 ghost use Prim.Native.Nat.{_*_, _≤_};
 ghost use lib.ListN.{length, take};
 ghost use Rattle.tables.specs.Tables.{stringTable, tablesOf};
@@ -24,9 +24,9 @@ fn answer(bytes: &[u8], ends: &[u32], schema: &[u32], instance: &[u32], out: &mu
     let mut list = [0u32; 16384];
     let matches = relaxng::match_list(bytes, ends, schema, instance, &mut list);
     match matches {
-        Matches::Valid(pairs) => write_pairs(true, &list, pairs, out),
-        Matches::NotValid(pairs) => write_pairs(false, &list, pairs, out),
-        Matches::NotMatched(code, place) => texts::write_refusal(code, place, out),
+        MatchAnswer::Valid(pairs) => write_pairs(true, &list, pairs, out),
+        MatchAnswer::NotValid(pairs) => write_pairs(false, &list, pairs, out),
+        MatchAnswer::NotMatched(code, place) => texts::write_refusal(code, place, out),
     }
 }
 

@@ -9,7 +9,7 @@ use Rattle.schema.specs.Kinds as kind
 use Rattle.schema.specs.Rows.{kindOf, childA, childB}
 use Rattle.schema.specs.Relations.{Below, Occurs}
 use Rattle.classes.specs.Membership.{inClass}
-use Rattle.places.specs.Paths.{isPair, notInExcept, in-repeated-pair, in-except}
+use Rattle.places.specs.Paths.{sharingKind, notInExcept, in-repeated-sharing, in-except}
 use Rattle.occurrences.specs.Attributes.{duplicate}
 use Rattle.occurrences.specs.Interleaves.{classReferred, same-element, text-twice}
 use Rattle.restrictions.specs.Schema.{SchemaVerdict, SchemaPasses}
@@ -27,7 +27,7 @@ passes (goes-on rows (goes-on places (goes-on names (goes-on paths (goes-on sequ
 
 module _ {strings : ℕ} {s : List ℕ} (p : SchemaPasses strings s) where
   -- no name is allowed to attributes on both sides of a group or interleave (10.4)
-  pub attributes-apart : (r x y u l : ℕ) → isPair (kindOf s r) ≡ true → Occurs s x (childA s r) → kindOf s x ≡ kind.attribute → Occurs s y (childB s r) → kindOf s y ≡ kind.attribute → inClass s u l (childA s x) ≡ true → inClass s u l (childA s y) ≡ true → ⊥
+  pub attributes-apart : (r x y u l : ℕ) → sharingKind (kindOf s r) ≡ true → Occurs s x (childA s r) → kindOf s x ≡ kind.attribute → Occurs s y (childB s r) → kindOf s y ≡ kind.attribute → inClass s u l (childA s x) ≡ true → inClass s u l (childA s y) ≡ true → ⊥
   attributes-apart r x y u l e o k o′ k′ a b = p .attributes r (duplicate x y u l e o k o′ k′ (record { first = a; second = b }))
 
   -- no name is allowed to elements on both sides of an interleave, and text stands on one side only (10.5)
@@ -38,8 +38,8 @@ module _ {strings : ℕ} {s : List ℕ} (p : SchemaPasses strings s) where
   texts-apart r x y e o k o′ k′ = p .interleaves r (text-twice x y e o k o′ k′)
 
   -- no attribute stands in a group or interleave below oneOrMore (10.2.3)
-  pub repeats-flat : (r q m : ℕ) → kindOf s m ≡ kind.oneOrMore → Below s q m → isPair (kindOf s q) ≡ true → Below s r q → kindOf s r ≡ kind.attribute → ⊥
-  repeats-flat r q m e b f c k = p .paths r (in-repeated-pair q m k f c e b)
+  pub repeats-flat : (r q m : ℕ) → kindOf s m ≡ kind.oneOrMore → Below s q m → sharingKind (kindOf s q) ≡ true → Below s r q → kindOf s r ≡ kind.attribute → ⊥
+  repeats-flat r q m e b f c k = p .paths r (in-repeated-sharing q m k f c e b)
 
   -- below a data's except stand only data, value and choice, and notAllowed nowhere inside a pattern (10.2.5)
   pub except-plain : (r q : ℕ) → kindOf s q ≡ kind.«data» → Below s r q → notInExcept (kindOf s r) ≡ false

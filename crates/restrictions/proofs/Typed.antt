@@ -11,9 +11,9 @@ use Rattle.schema.specs.Relations.{Child, by-a, by-b}
 use Rattle.schema.proofs.Children.{child-less}
 use Rattle.schema.proofs.Fields.{pattern-a, pattern-b, pattern-or-none, pattern-kind, PatternKind, is-empty, is-notAllowed, is-text, is-data, is-value, is-attribute, is-ref, is-oneOrMore, is-choice, is-group, is-interleave}
 use Rattle.schema.proofs.RowLaws.{right-size, in-table}
-use Rattle.places.specs.Paths.{isPair}
+use Rattle.places.specs.Paths.{sharingKind}
 use Rattle.places.specs.Places.{holdsWhole, notAllowed-inside}
-use Rattle.sequences.specs.Content.{HasType, groupable, value-type, data-type-1, data-type-2, text-type, ref-type, empty-type, attribute-type, pair-type, oneOrMore-type, choice-type, pair-not-groupable, repeat-not-groupable}
+use Rattle.sequences.specs.Content.{HasType, groupable, value-type, data-type-1, data-type-2, text-type, ref-type, empty-type, attribute-type, sharing-type, oneOrMore-type, choice-type, sharing-not-groupable, repeat-not-groupable}
 use Rattle.restrictions.specs.Schema.{SchemaPasses}
 
 abbrev Typed : List ℕ → ℕ → Type 0
@@ -31,7 +31,7 @@ module _ {strings : ℕ} {s : List ℕ} (p : SchemaPasses strings s) where
 
   module _ (r : ℕ) (below : (q : ℕ) → q < r → isPattern (sortOf s q) ≡ true → kindOf s q ≢ kind.notAllowed → Typed s q) where
     -- a child of a row that holds no pattern whole has a type
-    operand : (q : ℕ) → Child s r q → isPattern (sortOf s q) ≡ true → holdsWhole (kindOf s r) ≡ false → Typed s q
+    operand : (q : ℕ) → Child s q r → isPattern (sortOf s q) ≡ true → holdsWhole (kindOf s r) ≡ false → Typed s q
     operand q c i w = below q (child-less c) i (λ e. p .places q (notAllowed-inside r e c w))
 
     module _ {k : ℕ} (e : kindOf s r ≡ k) (some : k ≢ 0) (w : holdsWhole k ≡ false) where
@@ -47,10 +47,10 @@ module _ {strings : ℕ} {s : List ℕ} (p : SchemaPasses strings s) where
           let n = pattern-b strings s (p .rows) r (table e some) k e f in
           rw (n .0) (operand (bOf s r) (by-b (n .0) refl) (n .1) (ap holdsWhole e ∙ w))
 
-    pair : {k : ℕ} → kindOf s r ≡ k → isPair k ≡ true → Typed s (childA s r) → Typed s (childB s r) → Typed s r
+    pair : {k : ℕ} → kindOf s r ≡ k → sharingKind k ≡ true → Typed s (childA s r) → Typed s (childB s r) → Typed s r
     pair e i t u =
-        let j : isPair (kindOf s r) ≡ true = rw e i in
-        (_, pair-type j (t .1) (u .1) (grouped (groupable (t .0) (u .0)) (p .sequences r) (pair-not-groupable (t .0) (u .0) j (t .1) (u .1))))
+        let j : sharingKind (kindOf s r) ≡ true = rw e i in
+        (_, sharing-type j (t .1) (u .1) (grouped (groupable (t .0) (u .0)) (p .sequences r) (sharing-not-groupable (t .0) (u .0) j (t .1) (u .1))))
 
     by-kind : PatternKind (kindOf s r) → kindOf s r ≢ kind.notAllowed → Typed s r
     unfolding shapeOf

@@ -13,14 +13,14 @@ use Rattle.tables.specs.Outputs.{zeros}
 use Rattle.tables.proofs.Fill.{getD-zeros}
 use Rattle.tables.proofs.Numbers.{one-or-none}
 use Rattle.schema.specs.Rows.{childA, childB}
-use Rattle.schema.specs.RowRule.{maxRows, isRow, usesBelow}
+use Rattle.schema.specs.RowRule.{maxRows, isRow, usesBefore}
 use Rattle.rows.specs.Counts.{Counts, Added}
 
 is-row-low : (r x : ℕ) → isRow r x ≤ 1
 is-row-low r x = one-or-none (eqb x r) refl
 
-uses-low : (s : List ℕ) (r p : ℕ) → usesBelow s r p ≤ 2 * p
-unfolding usesBelow
+uses-low : (s : List ℕ) (r p : ℕ) → usesBefore s r p ≤ 2 * p
+unfolding usesBefore
 uses-low s r zero = omega arith
 uses-low s r (suc p) = omega (arith, uses-low s r p, is-row-low r (childA s p), is-row-low r (childB s p))
 
@@ -41,7 +41,7 @@ added-nowhere counts x h = record {
 }
 
 pub counts-none : (s : List ℕ) {counts : List ℕ} → counts ≡ zeros maxRows → Counts s counts 0
-unfolding usesBelow
+unfolding usesBefore
 counts-none s e = record {
   size = ap length e ∙ length-replicate {A = ℕ} maxRows 0;
   uses = λ r h. ap (λ (l : List ℕ). getD l r 0) e ∙ getD-zeros maxRows r;
@@ -64,8 +64,8 @@ module _ {s counts : List ℕ} {p : ℕ} (c : Counts s counts p) where
       go (no h) = let e = List·getD-eq-default after 0 {n = r} (omega (arith, c .size, a .size)) in rw e (omega arith)
 
   pub counts-more : {one two : List ℕ} → Added counts (childA s p) one → Added one (childB s p) two → Counts s two (p + 1)
-  unfolding usesBelow
+  unfolding usesBefore
   counts-more a b = record {
     size = b .size ∙ a .size ∙ c .size;
-    uses = λ r h. rw (add-one, usesBelow) (b .uses r (omega (arith, c .size, a .size)) ∙ ap (λ (n : ℕ). n + isRow r (childB s p)) (a .uses r (omega (arith, c .size)) ∙ ap (λ (n : ℕ). n + isRow r (childA s p)) (c .uses r h)));
+    uses = λ r h. rw (add-one, usesBefore) (b .uses r (omega (arith, c .size, a .size)) ∙ ap (λ (n : ℕ). n + isRow r (childB s p)) (a .uses r (omega (arith, c .size)) ∙ ap (λ (n : ℕ). n + isRow r (childA s p)) (c .uses r h)));
   }

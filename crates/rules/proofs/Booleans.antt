@@ -6,10 +6,10 @@ use mathlib.Core.Logic.{_⊎_, inl, inr}
 use lib.Dec.{eqb}
 use borrow.Author.Tests.{eqb-true, eqb-false, eq-eqb, not-true}
 use Rattle.tables.proofs.Booleans.{or-left, or-right, and-right, is-false}
-use Rattle.rules.specs.Items.{Attributes, none, only, _∪_}
+use Rattle.rules.specs.Items.{Attributes, noAttributes, only, _∪_}
 
 -- a set with no member, and one with a single member
-pub no-member : (A : Attributes) → ((x : ℕ) → ¬ (A x ≡ true)) → A ≡ none
+pub no-member : (A : Attributes) → ((x : ℕ) → ¬ (A x ≡ true)) → A ≡ noAttributes
 no-member A h = fun-ext (λ x. is-false (A x) (h x))
 
 pub sole-member : (A : Attributes) (x : ℕ) → A x ≡ true → ((y : ℕ) → A y ≡ true → x ≡ y) → A ≡ only x
@@ -64,8 +64,8 @@ one-and-rest A y h = fun-ext (λ x. go (eqb y x) (A x) (λ e. rw (eqb-true y x e
     go false false f = refl
 
 -- the union is empty only where both sides are
-pub none-left : (a b : Attributes) → a ∪ b ≡ none → a ≡ none
+pub none-left : (a b : Attributes) → a ∪ b ≡ noAttributes → a ≡ noAttributes
 none-left a b e = no-member a (λ x h. true≢false (sym (or-left (b x) h) ∙ ap (λ (s : Attributes). s x) e))
 
-pub none-right : (a b : Attributes) → a ∪ b ≡ none → b ≡ none
+pub none-right : (a b : Attributes) → a ∪ b ≡ noAttributes → b ≡ noAttributes
 none-right a b e = no-member b (λ x h. true≢false (sym (or-right (a x) h) ∙ ap (λ (s : Attributes). s x) e))

@@ -15,9 +15,9 @@ use Rattle.schema.specs.Relations.{Child, by-a, by-b, connective, Occurs, itsel
 use Rattle.schema.specs.Views.{Pattern}
 use Rattle.schema.proofs.Children.{child-is}
 use Rattle.places.specs.Places.{holdsWhole, notAllowed-inside}
-use Rattle.sequences.specs.Content.{HasType, emptyType, complexType, simpleType, groupable, value-type, data-type-1, data-type-2, text-type, ref-type, empty-type, attribute-type, pair-type, oneOrMore-type, choice-type, pair-not-groupable, repeat-not-groupable}
+use Rattle.sequences.specs.Content.{HasType, emptyType, complexType, simpleType, groupable, value-type, data-type-1, data-type-2, text-type, ref-type, empty-type, attribute-type, sharing-type, oneOrMore-type, choice-type, sharing-not-groupable, repeat-not-groupable}
 use Rattle.restrictions.specs.Schema.{SchemaPasses}
-use Rattle.sequences.proofs.Types.{pair-kind}
+use Rattle.sequences.proofs.Types.{sharing-kind}
 use Rattle.restrictions.proofs.Typed.{grouped, has-content-type}
 use Rattle.rules.specs.Reach.{Role, simple, itemBy, isSimple, takesAny}
 use Rattle.rules.proofs.RowPatterns.{Sides, Makes}
@@ -35,7 +35,7 @@ type-least (text-type e) = rw e (omega arith)
 type-least (ref-type e) = rw e (omega arith)
 type-least (empty-type e) = rw e (omega arith)
 type-least (attribute-type e t) = rw e (omega arith)
-type-least {s} {r} (pair-type e t u g) = ⊎-elim (λ k. rw k (omega arith)) (λ k. rw k (omega arith)) (pair-kind (kindOf s r) e)
+type-least {s} {r} (sharing-type e t u g) = ⊎-elim (λ k. rw k (omega arith)) (λ k. rw k (omega arith)) (sharing-kind (kindOf s r) e)
 type-least (oneOrMore-type e t g) = rw e (omega arith)
 type-least (choice-type e t u) = rw e (omega arith)
 
@@ -47,16 +47,16 @@ module _ (s : List ℕ) (p q : ℕ) (o : connective (kindOf s p) ≡ true) where
   no-connective : {A : Type 0} {k : ℕ} → kindOf s p ≡ k → connective k ≡ false → A
   no-connective e f = absurd (false≢true (sym f ∙ sym (ap connective e) ∙ o))
 
-  side : {c d m : ℕ} → HasType s (childA s p) c → HasType s (childB s p) d → c ≤ m → d ≤ m → Child s p q → TypedUpTo s m q
+  side : {c d m : ℕ} → HasType s (childA s p) c → HasType s (childB s p) d → c ≤ m → d ≤ m → Child s q p → TypedUpTo s m q
   side {c} {d} t u h l i = ⊎-elim (λ e. (c, subst (λ (x : ℕ). HasType s x c) e t, h)) (λ e. (d, subst (λ (x : ℕ). HasType s x d) e u, l)) (child-is i)
 
-  repeat-child-type : {c : ℕ} → kindOf s p ≡ kind.oneOrMore → HasType s (childA s p) c → Child s p q → TypedUpTo s c q
+  repeat-child-type : {c : ℕ} → kindOf s p ≡ kind.oneOrMore → HasType s (childA s p) c → Child s q p → TypedUpTo s c q
   unfolding shapeOf
   repeat-child-type {c} e t (by-a n f) = let g : childA s p ≡ q = rw n f in (c, subst (λ (x : ℕ). HasType s x c) g t, omega arith)
   repeat-child-type e t (by-b n f) = absurd (false≢true (rw e at n))
 
   -- a child of a choice, group, interleave or oneOrMore has a type that is not greater
-  child-type : {c : ℕ} → Child s p q → HasType s p c → TypedUpTo s c q
+  child-type : {c : ℕ} → Child s q p → HasType s p c → TypedUpTo s c q
   child-type i (value-type e) = no-connective e refl
   child-type i (data-type-1 e f) = no-connective e refl
   child-type i (data-type-2 e t) = no-connective e refl
@@ -64,7 +64,7 @@ module _ (s : List ℕ) (p q : ℕ) (o : connective (kindOf s p) ≡ true) where
   child-type i (ref-type e) = no-connective e refl
   child-type i (empty-type e) = no-connective e refl
   child-type i (attribute-type e t) = no-connective e refl
-  child-type i (pair-type e t u g) = side t u (omega arith) (omega arith) i
+  child-type i (sharing-type e t u g) = side t u (omega arith) (omega arith) i
   child-type i (oneOrMore-type e t g) = repeat-child-type e t i
   child-type i (choice-type e t u) = side t u (omega arith) (omega arith) i
 
@@ -126,17 +126,17 @@ groupable-told c d e = go (eqb c emptyType) refl (eqb d emptyType) refl (eqb c c
 
 module _ {strings : ℕ} {s : List ℕ} (pass : SchemaPasses strings s) where
   -- notAllowed is no operand, so an operand has a type
-  operand-type : (p q : ℕ) → holdsWhole (kindOf s p) ≡ false → Child s p q → isPattern (sortOf s q) ≡ true → (c : ℕ) × HasType s q c
+  operand-type : (p q : ℕ) → holdsWhole (kindOf s p) ≡ false → Child s q p → isPattern (sortOf s q) ≡ true → (c : ℕ) × HasType s q c
   operand-type p q w d i = has-content-type pass q i (λ e. pass .places q (notAllowed-inside p e d w))
 
   -- the operands of a group or interleave
-  pub pair-grouped : (p p₁ p₂ : ℕ) → Sides s p p₁ p₂ → Grouped s p₁ p₂
-  pair-grouped p p₁ p₂ sides =
+  pub sides-grouped : (p p₁ p₂ : ℕ) → Sides s p p₁ p₂ → Grouped s p₁ p₂
+  sides-grouped p p₁ p₂ sides =
       let t = operand-type p p₁ (sides .not-whole) (sides .first-child) (sides .first-pattern) in
       let u = operand-type p p₂ (sides .not-whole) (sides .second-child) (sides .second-pattern) in
       let a : HasType s (childA s p) (t .0) = rw (sides .first) (t .1) in
       let b : HasType s (childB s p) (u .0) = rw (sides .second) (u .1) in
-      let g = groupable-told (t .0) (u .0) (grouped pass (groupable (t .0) (u .0)) (pass .sequences p) (pair-not-groupable (t .0) (u .0) (sides .is-pair) a b)) in
+      let g = groupable-told (t .0) (u .0) (grouped pass (groupable (t .0) (u .0)) (pass .sequences p) (sharing-not-groupable (t .0) (u .0) (sides .is-sharing) a b)) in
       record {
         first = t .0;
         second = u .0;
@@ -147,7 +147,7 @@ module _ {strings : ℕ} {s : List ℕ} (pass : SchemaPasses strings s) where
       }
 
   -- what is repeated is not simple
-  pub repeated-type : (p q : ℕ) → kindOf s p ≡ kind.oneOrMore → childA s p ≡ q → Child s p q → isPattern (sortOf s q) ≡ true → (c : ℕ) × HasType s q c × (c < simpleType)
+  pub repeated-type : (p q : ℕ) → kindOf s p ≡ kind.oneOrMore → childA s p ≡ q → Child s q p → isPattern (sortOf s q) ≡ true → (c : ℕ) × HasType s q c × (c < simpleType)
   repeated-type p q e f d i =
       let t = operand-type p q (ap holdsWhole e) d i in
       let a : HasType s (childA s p) (t .0) = rw f (t .1) in

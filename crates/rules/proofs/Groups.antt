@@ -16,7 +16,7 @@ use Rattle.rules.proofs.Inversion.{cast}
 use Rattle.rules.specs.Spans.{CleanAt, Span}
 use Rattle.rules.proofs.Occurrences.{clean-run, named, taken}
 use Rattle.rules.specs.Reach.{Reaches, namesAttribute, takes}
-use Rattle.rules.specs.Restricted.{Restricted, PairRestricted}
+use Rattle.rules.specs.Restricted.{Restricted, SidesRestricted}
 use Rattle.rules.proofs.Runs.{run-join, run-split}
 use Rattle.rules.proofs.Spans.{by-kind}
 
@@ -27,7 +27,7 @@ Tells P A Property = (x : ℕ) → A x ≡ true → (P x ≡ true) ↔ Property 
 module _ (L : Lookups) (NotMatch : List ℕ → ℕ → Type 0) (R : Restricted L) (A : Attributes) (it : ℕ → Item) (K : ℕ → Bool) (p p₁ p₂ : ℕ)
     (P : ℕ → Bool) (names : Tells P A (λ x. Reaches L (namesAttribute L x) (L .pattern p₁))) where
   -- so the sets of a match are the two parts
-  sets : PairRestricted L p₁ p₂ → {a₁ a₂ : Attributes} {m₁ m₂ : List Item} → A ≡ a₁ ∪ a₂
+  sets : SidesRestricted L p₁ p₂ → {a₁ a₂ : Attributes} {m₁ m₂ : List Item} → A ≡ a₁ ∪ a₂
       → Match L NotMatch a₁ m₁ (L .pattern p₁) → Match L NotMatch a₂ m₂ (L .pattern p₂) → (a₁ ≡ A ∩ P) × (a₂ ≡ A ∖ P)
   sets r {a₁} {a₂} e d₁ d₂ = (first-part P e in-first in-second, second-part P e in-first in-second)
     where

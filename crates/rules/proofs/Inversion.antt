@@ -7,7 +7,7 @@ use mathlib.Core.Logic.{_⊎_, inl, inr, _↔_}
 use lib.Seq.{append-snoc}
 use Rattle.schema.specs.Views.{Pattern}
 use Rattle.schema.specs.Views as pattern
-use Rattle.rules.specs.Items.{Item, string, Attributes, none, only, _∪_, Lookups}
+use Rattle.rules.specs.Items.{Item, string, Attributes, noAttributes, only, _∪_, Lookups}
 use Rattle.rules.specs.Items as item
 use Rattle.rules.specs.Rules.{Interleaves, Ws, ws-empty, ws-string, Match, WeakMatch, choice-1, choice-2, group, empty, text-1, text-2, oneOrMore-1, oneOrMore-2, interleave, attribute, element, value, data-1, data-2}
 use Rattle.rules.specs.Reach.{Role, oneString, roleOf, simple}
@@ -57,13 +57,13 @@ module _ (L : Lookups) (NotMatch : List ℕ → ℕ → Type 0) where
     pub set : a ≡ only row
     pub sequence : m ≡ []
     pub named : L .inClass nc row ≡ true
-    pub valued : WeakMatch L NotMatch none (string (L .value row) ∷ []) x
+    pub valued : WeakMatch L NotMatch noAttributes (string (L .value row) ∷ []) x
 
   pub record ElementMatch (a : Attributes) (m : List Item) (d : ℕ) : Type 0 where
     pub row : ℕ
     pub ws₁ : List Item
     pub ws₂ : List Item
-    pub set : a ≡ none
+    pub set : a ≡ noAttributes
     pub sequence : m ≡ ws₁ ++ item.element row ∷ ws₂
     pub paired : Paired L NotMatch row d
     pub before : Ws L ws₁
@@ -71,12 +71,12 @@ module _ (L : Lookups) (NotMatch : List ℕ → ℕ → Type 0) where
 
   -- the kinds but oneOrMore, whose rule has itself as a premise
   abbrev pub Step : Pattern → Attributes → List Item → Type 0
-  Step pattern.empty a m = (a ≡ none) × (m ≡ [])
+  Step pattern.empty a m = (a ≡ noAttributes) × (m ≡ [])
   Step pattern.notAllowed a m = ⊥
-  Step pattern.text a m = (a ≡ none) × (hasElement m ≡ false)
-  Step (pattern.dataAll t) a m = (a ≡ none) × One (λ s. Unit {0}) m
-  Step (pattern.dataExcept t p) a m = (a ≡ none) × One (λ s. NotMatch s p) m
-  Step (pattern.value t k) a m = (a ≡ none) × One (λ s. L .Equal t s (L .text k)) m
+  Step pattern.text a m = (a ≡ noAttributes) × (hasElement m ≡ false)
+  Step (pattern.dataAll t) a m = (a ≡ noAttributes) × One (λ s. Unit {0}) m
+  Step (pattern.dataExcept t p) a m = (a ≡ noAttributes) × One (λ s. NotMatch s p) m
+  Step (pattern.value t k) a m = (a ≡ noAttributes) × One (λ s. L .Equal t s (L .text k)) m
   Step (pattern.attribute nc p) a m = AttributeMatch a m nc (L .pattern p)
   Step (pattern.ref d) a m = ElementMatch a m d
   Step (pattern.oneOrMore p) a m = Match L NotMatch a m (pattern.oneOrMore p)
@@ -102,7 +102,7 @@ module _ (L : Lookups) (NotMatch : List ℕ → ℕ → Type 0) where
   step data-1 = (refl, (_, refl, tt))
   step (data-2 h) = (refl, (_, refl, h))
 
-  texts : (n m : List Item) → Match L NotMatch none n pattern.text → hasElement m ≡ false → Match L NotMatch none (n ++ m) pattern.text
+  texts : (n m : List Item) → Match L NotMatch noAttributes n pattern.text → hasElement m ≡ false → Match L NotMatch noAttributes (n ++ m) pattern.text
   texts n [] d h = rw append-nil d
   texts n (string s ∷ m) d h = rw append-snoc at (texts (n ++ (string s ∷ [])) m (text-2 s d) h)
   texts n (item.element e ∷ m) d h = absurd (true≢false h)
@@ -129,14 +129,14 @@ module _ (L : Lookups) (NotMatch : List ℕ → ℕ → Type 0) where
   stepwise x = (step, unstep x)
 
   -- a pattern of one string matches no attributes and that string alone
-  one-string : {a : Attributes} {m : List Item} (x : Pattern) (P : List ℕ → Type 0) → Match L NotMatch a m x ↔ ((a ≡ none) × One P m) → ((s : List ℕ) → Match L NotMatch none (string s ∷ []) x ↔ P s)
-      → Match L NotMatch a m x ↔ ((a ≡ none) × One (λ s. Match L NotMatch none (string s ∷ []) x) m)
+  one-string : {a : Attributes} {m : List Item} (x : Pattern) (P : List ℕ → Type 0) → Match L NotMatch a m x ↔ ((a ≡ noAttributes) × One P m) → ((s : List ℕ) → Match L NotMatch noAttributes (string s ∷ []) x ↔ P s)
+      → Match L NotMatch a m x ↔ ((a ≡ noAttributes) × One (λ s. Match L NotMatch noAttributes (string s ∷ []) x) m)
   one-string x P f g = (
     λ d. let t = f .0 d in (t .0, (t .1 .0, t .1 .1, g (t .1 .0) .1 (t .1 .2))),
     λ t. f .1 (t .0, (t .1 .0, t .1 .1, g (t .1 .0) .0 (t .1 .2))),
   )
 
-  pub string-alone : {a : Attributes} {m : List Item} (x : Pattern) → roleOf x ≡ oneString → Match L NotMatch a m x ↔ ((a ≡ none) × One (λ s. Match L NotMatch none (string s ∷ []) x) m)
+  pub string-alone : {a : Attributes} {m : List Item} (x : Pattern) → roleOf x ≡ oneString → Match L NotMatch a m x ↔ ((a ≡ noAttributes) × One (λ s. Match L NotMatch noAttributes (string s ∷ []) x) m)
   string-alone (pattern.dataAll t) e = one-string (pattern.dataAll t) (λ s. Unit {0}) (stepwise (pattern.dataAll t)) (λ s. (λ d. tt, λ u. data-1))
   string-alone (pattern.dataExcept t p) e =
       one-string (pattern.dataExcept t p) (λ s. NotMatch s p) (stepwise (pattern.dataExcept t p)) (λ s. (λ d. the-one (λ s. NotMatch s p) s (step d .1), data-2))
@@ -158,10 +158,10 @@ module _ (L : Lookups) (NotMatch : List ℕ → ℕ → Type 0) where
   alone b a e x ws-empty k = cc
   alone b a e x (ws-string w) k = cc
 
-  pub against : (e d : ℕ) → Match L NotMatch none (item.element e ∷ []) (pattern.ref d) ↔ Paired L NotMatch e d
+  pub against : (e d : ℕ) → Match L NotMatch noAttributes (item.element e ∷ []) (pattern.ref d) ↔ Paired L NotMatch e d
   against e d = (to, λ p. element e (p .defined) (p .ordered) (p .named) (p .content) ws-empty ws-empty)
     where
-      to : Match L NotMatch none (item.element e ∷ []) (pattern.ref d) → Paired L NotMatch e d
+      to : Match L NotMatch noAttributes (item.element e ∷ []) (pattern.ref d) → Paired L NotMatch e d
       to m =
-          let s : ElementMatch none (item.element e ∷ []) d = step m in
+          let s : ElementMatch noAttributes (item.element e ∷ []) d = step m in
           rw (alone (s .ws₁) (s .ws₂) e (s .row) (s .before) (s .sequence)) at (s .paired)

@@ -67,8 +67,8 @@ sharing-role (role-element e) h = absurd (false≢true h)
 sharing-role (role-sharing e) h = e
 sharing-role role-another h = absurd (false≢true h)
 
-pub pair-made : {k a b : ℕ} {x : Pattern} → Makes k a b x → isSharing x ≡ true → path.isPair k ≡ true
-pair-made m h = sharing-role (has-role m) h
+pub sharing-made : {k a b : ℕ} {x : Pattern} → Makes k a b x → isSharing x ≡ true → path.isPair k ≡ true
+sharing-made m h = sharing-role (has-role m) h
 
 -- a pattern that takes strings is text, or takes one
 string-role : {k a : ℕ} {r : Role} → HasRole k a r → stringBy r ≡ true → (k ≡ kind.text) ⊎ (simple r ≡ true)

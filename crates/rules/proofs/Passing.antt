@@ -24,11 +24,11 @@ use Rattle.restrictions.proofs.Passes.{attributes-apart, elements-apart, texts-
 use Rattle.restrictions.proofs.Passes as passes
 use Rattle.rules.specs.Items.{Item, element, string, Lookups}
 use Rattle.rules.specs.Job.{lookups}
-use Rattle.rules.specs.Reach.{Part, operand, Reaches, isSimple, takesAny, takesString, namesAttribute, namesElement, takes, repeated}
-use Rattle.rules.specs.Restricted.{Flat, PairRestricted, Restricted}
+use Rattle.rules.specs.Reach.{Subpattern, operand, Reaches, isSimple, takesAny, takesString, namesAttribute, namesElement, takes, repeated}
+use Rattle.rules.specs.Restricted.{Flat, SidesRestricted, Restricted}
 use Rattle.rules.proofs.RowPatterns.{row-makes, from-oneOrMore, from-interleave, has-kind, Sides, group-sides, interleave-sides, repeated-sides, part-child, reached-row, inside-row, occurs-below, child-below}
-use Rattle.rules.proofs.ContentTypes.{leastType, occurs-least, simple-least, any-least, Grouped, pair-grouped, repeated-type}
-use Rattle.rules.proofs.KindTests.{attribute-made, ref-made, pair-made, string-kind}
+use Rattle.rules.proofs.ContentTypes.{leastType, occurs-least, simple-least, any-least, Grouped, sides-grouped, repeated-type}
+use Rattle.rules.proofs.KindTests.{attribute-made, ref-made, sharing-made, string-kind}
 use Rattle.rules.proofs.Paths.{excepts-plain}
 
 module _ {strings : ℕ} (J : Tables) (pass : SchemaPasses strings (J .schema)) where
@@ -68,15 +68,15 @@ module _ {strings : ℕ} (J : Tables) (pass : SchemaPasses strings (J .schema)) 
       omega (arith, any-least (patternOf s (r .0)) (row-makes s (r .0) refl) (r .2), occurs-least (r .1) w)
 
   -- the sides of a group or interleave
-  pair-restricted : {p p₁ p₂ : ℕ} → Sides s p p₁ p₂ → PairRestricted L p₁ p₂
-  pair-restricted {p} {p₁} {p₂} sides = record {
+  sides-restricted : {p p₁ p₂ : ℕ} → Sides s p p₁ p₂ → SidesRestricted L p₁ p₂
+  sides-restricted {p} {p₁} {p₂} sides = record {
     attributes = apart;
     first = λ h i. let f = grouped .before (simple-type (grouped .first-type) h) in omega (arith, any-type (grouped .second-type) i);
     second = λ h i. let f = grouped .after (simple-type (grouped .second-type) h) in omega (arith, any-type (grouped .first-type) i);
   }
     where
       grouped : Grouped s p₁ p₂
-      grouped = pair-grouped pass p p₁ p₂ sides
+      grouped = sides-grouped pass p p₁ p₂ sides
 
       apart : (u : ℕ) → Reaches L (namesAttribute L u) (patternOf s p₁) → ¬ Reaches L (namesAttribute L u) (patternOf s p₂)
       apart u h i =
@@ -84,7 +84,7 @@ module _ {strings : ℕ} (J : Tables) (pass : SchemaPasses strings (J .schema)) 
           let y = reached-row J (pass .rows) p₂ i in
           let a = attribute-class (x .0) u (x .2) in
           let b = attribute-class (y .0) u (y .2) in
-          attributes-apart pass p (x .0) (y .0) (node.aOf t u) (node.bOf t u) (sides .is-pair) (rw (sides .first) (x .1)) (a .0) (rw (sides .second) (y .1)) (b .0) (a .1) (b .1)
+          attributes-apart pass p (x .0) (y .0) (node.aOf t u) (node.bOf t u) (sides .is-sharing) (rw (sides .first) (x .1)) (a .0) (rw (sides .second) (y .1)) (b .0) (a .1) (b .1)
 
   -- a row whose pattern takes strings is text, or has the type of data and value
   abbrev TextOrSimple : ℕ → Type 0
@@ -108,7 +108,7 @@ module _ {strings : ℕ} (J : Tables) (pass : SchemaPasses strings (J .schema)) 
       y = reached-row J (pass .rows) p₂ i
 
       grouped : Grouped s p₁ p₂
-      grouped = pair-grouped pass p p₁ p₂ sides
+      grouped = sides-grouped pass p p₁ p₂ sides
 
       low : leastType (kindOf s (x .0)) ≤ grouped .first
       low = occurs-least (x .1) (grouped .first-type)
@@ -135,9 +135,9 @@ module _ {strings : ℕ} (J : Tables) (pass : SchemaPasses strings (J .schema)) 
   flat : (p q : ℕ) → patternOf s p ≡ oneOrMore q → Flat L (patternOf s q)
   flat p q e y inside pair u h =
       let m = from-oneOrMore (row-makes s p e) in
-      let d = part-child (pass .rows) p (subst (Part q) (sym e) (operand repeated)) in
+      let d = part-child (pass .rows) p (subst (Subpattern q) (sym e) (operand repeated)) in
       let x = inside-row J (pass .rows) q inside in
-      let g = pair-made (row-makes s (x .0) (x .2)) pair in
+      let g = sharing-made (row-makes s (x .0) (x .2)) pair in
       let z = reached-row J (pass .rows) (x .0) (subst (Reaches L (namesAttribute L u)) (sym (x .2)) h) in
       let a = attribute-class (z .0) u (z .2) in
       passes.repeats-flat pass (z .0) (x .0) p (m .0) (child-below d (x .1)) g (⊎-elim (λ f. absurd (itself (x .0) (z .0) f g (a .0))) (λ b. b) (occurs-below (z .1))) (a .0)
@@ -163,8 +163,8 @@ module _ {strings : ℕ} (J : Tables) (pass : SchemaPasses strings (J .schema)) 
     bounded = past;
     falls = λ p q i. child-less (part-child (pass .rows) p i);
     same-name = λ x. (refl, refl);
-    groups = λ p p₁ p₂ e. pair-restricted (group-sides (pass .rows) p e);
-    interleaves = λ p p₁ p₂ e. pair-restricted (interleave-sides (pass .rows) p e);
+    groups = λ p p₁ p₂ e. sides-restricted (group-sides (pass .rows) p e);
+    interleaves = λ p p₁ p₂ e. sides-restricted (interleave-sides (pass .rows) p e);
     items = λ p p₁ p₂ e. items-apart (from-interleave (row-makes s p e) .0) (interleave-sides (pass .rows) p e);
     repeats-flat = flat;
     repeats-sequenced = not-simple;

@@ -21,13 +21,13 @@ use Rattle.restrictions.specs.Schema.{SchemaPasses}
 use Rattle.restrictions.proofs.Passes.{except-plain}
 use Rattle.rules.specs.Items.{Lookups}
 use Rattle.rules.specs.Job.{lookups, startRow}
-use Rattle.rules.specs.Reach.{Part, operand, choice-first, choice-second, of-except}
+use Rattle.rules.specs.Reach.{Subpattern, operand, choice-first, choice-second, of-except}
 use Rattle.rules.specs.Restricted.{Plain, plain-notAllowed, plain-value, plain-data, plain-except, plain-choice, Starts, starts-notAllowed, starts-ref, starts-choice}
 use Rattle.rules.proofs.RowPatterns.{has-kind, Makes, makes-empty, makes-notAllowed, makes-text, makes-data, makes-except, makes-value, makes-attribute, makes-ref, makes-oneOrMore, makes-choice, makes-group, makes-interleave, makes-none, row-makes, from-except, part-child, part-pattern}
 
 module _ (L : Lookups) where
   -- a pattern whose kind may stand in an except is plain if its parts are
-  plain-made : {k a b : ℕ} {x : Pattern} → Makes k a b x → PatternKind k → notInExcept k ≡ false → ((q : ℕ) → Part q x → Plain L (L .pattern q)) → Plain L x
+  plain-made : {k a b : ℕ} {x : Pattern} → Makes k a b x → PatternKind k → notInExcept k ≡ false → ((q : ℕ) → Subpattern q x → Plain L (L .pattern q)) → Plain L x
   plain-made (makes-empty e) i f below = absurd (true≢false (rw e at f))
   plain-made (makes-notAllowed e) i f below = plain-notAllowed
   plain-made (makes-text e) i f below = absurd (true≢false (rw e at f))
@@ -43,7 +43,7 @@ module _ (L : Lookups) where
   plain-made (makes-none n) i f below = absurd (n i)
 
   -- the same below start
-  starts-made : {k a b : ℕ} {x : Pattern} → Makes k a b x → PatternKind k → notInStart k ≡ false → ((q : ℕ) → Part q x → Starts L (L .pattern q)) → Starts L x
+  starts-made : {k a b : ℕ} {x : Pattern} → Makes k a b x → PatternKind k → notInStart k ≡ false → ((q : ℕ) → Subpattern q x → Starts L (L .pattern q)) → Starts L x
   starts-made (makes-empty e) i f below = absurd (true≢false (rw e at f))
   starts-made (makes-notAllowed e) i f below = starts-notAllowed
   starts-made (makes-text e) i f below = absurd (true≢false (rw e at f))
@@ -60,7 +60,7 @@ module _ (L : Lookups) where
 
 module _ {strings : ℕ} {s : List ℕ} (pass : SchemaPasses strings s) where
   -- P holds of every pattern below row p, where it holds of a row by the patterns below the row
-  below-all : (P : ℕ → Type 0) (p : ℕ) → ((r : ℕ) → Below s r p → isPattern (sortOf s r) ≡ true → ((q : ℕ) → Part q (patternOf s r) → P q) → P r) → (n r : ℕ) → r < n → Below s r p → isPattern (sortOf s r) ≡ true → P r
+  below-all : (P : ℕ → Type 0) (p : ℕ) → ((r : ℕ) → Below s r p → isPattern (sortOf s r) ≡ true → ((q : ℕ) → Subpattern q (patternOf s r) → P q) → P r) → (n r : ℕ) → r < n → Below s r p → isPattern (sortOf s r) ≡ true → P r
   below-all P p step zero r h b i = absurd (omega arith)
   below-all P p step (suc n) r h b i =
       step r b i (λ q d. let c = part-child (pass .rows) r d in let l = child-less c in below-all P p step n q (omega arith) (further b c) (part-pattern (pass .rows) r d))
@@ -74,13 +74,13 @@ module _ {strings : ℕ} {s : List ℕ} (pass : SchemaPasses strings s) where
       let n = some-row in
       last-kind strings s (pass .rows) (rowsOf s - 1) (omega arith) (omega arith)
 
-  start-pattern : Child s (rowsOf s - 1) (aOf s (rowsOf s - 1)) × (isPattern (sortOf s (aOf s (rowsOf s - 1))) ≡ true)
+  start-pattern : Child s (aOf s (rowsOf s - 1)) (rowsOf s - 1) × (isPattern (sortOf s (aOf s (rowsOf s - 1))) ≡ true)
   unfolding shapeOf
   start-pattern =
       let i = pattern-a strings s (pass .rows) (rowsOf s - 1) (has-kind (pass .rows) start-kind (λ z. omega arith)) kind.start start-kind refl in
       (by-a (i .0) refl, i .1)
 
-  pub start-child : Child s (rowsOf s - 1) (aOf s (rowsOf s - 1))
+  pub start-child : Child s (aOf s (rowsOf s - 1)) (rowsOf s - 1)
   start-child = start-pattern .0
 
   in-start-right : (r : ℕ) → Below s r (rowsOf s - 1) → notInStart (kindOf s r) ≡ false
@@ -94,7 +94,7 @@ module _ {strings : ℕ} (J : Tables) (pass : SchemaPasses strings (J .schema)) 
   pub excepts-plain : (p d q : ℕ) → patternOf (J .schema) p ≡ dataExcept d q → Plain (lookups J) (patternOf (J .schema) q)
   excepts-plain p d q e =
       let m = from-except (row-makes (J .schema) p e) in
-      let part : Part q (patternOf (J .schema) p) = subst (Part q) (sym e) of-except in
+      let part : Subpattern q (patternOf (J .schema) p) = subst (Subpattern q) (sym e) of-except in
       below-all pass (λ (r : ℕ). Plain (lookups J) (patternOf (J .schema) r)) p
       (λ r b i below. plain-made (lookups J) (row-makes (J .schema) r refl) (pattern-kind (kindOf (J .schema) r) i) (except-plain pass r p (m .0) b) below)
       (suc q) q (omega arith) (child (part-child (pass .rows) p part)) (part-pattern (pass .rows) p part)

@@ -10,7 +10,7 @@ use borrow.Author.Tests.{eqb-true}
 use Rattle.schema.specs.Views.{Pattern}
 use Rattle.schema.specs.Views as pattern
 use Rattle.relations.specs.Relations.{Plus, once, more}
-use Rattle.rules.specs.Items.{Item, Attributes, none, only, _∪_, Lookups}
+use Rattle.rules.specs.Items.{Item, Attributes, noAttributes, only, _∪_, Lookups}
 use Rattle.rules.specs.Rules.{Disjoint, Match, choice-1, choice-2, group, empty, text-1, text-2, oneOrMore-1, oneOrMore-2, interleave, attribute, element, value, data-1, data-2}
 use Rattle.tables.proofs.Booleans.{or-either, and-left}
 use Rattle.rules.proofs.Booleans.{_∖_, no-member, ∖-only, one-and-rest, none-left, none-right}
@@ -31,7 +31,7 @@ module _ (L : Lookups) where
   module _ (NotMatch : List ℕ → ℕ → Type 0) where
     -- no items, or items that match without attributes
     abbrev NoneOr : Pattern → List Item → Type 0
-    NoneOr x m = (m ≡ []) ⊎ Match L NotMatch none m x
+    NoneOr x m = (m ≡ []) ⊎ Match L NotMatch noAttributes m x
 
     -- the attributes of a match come apart: each alone, and the items without them
     record Apart (a : Attributes) (m : List Item) (x : Pattern) : Type 0 where
@@ -44,11 +44,11 @@ module _ (L : Lookups) where
       items = inr (cast L NotMatch (no-member a (λ y k. h y (named L NotMatch d y k))) refl d);
     }
 
-    only-items : {m : List Item} {x : Pattern} → Match L NotMatch none m x → Apart none m x
+    only-items : {m : List Item} {x : Pattern} → Match L NotMatch noAttributes m x → Apart noAttributes m x
     only-items d = record { single = λ y h. absurd (false≢true h); items = inr d }
 
     apart-map : {a : Attributes} {m : List Item} {x z : Pattern} → ((a : Attributes) (m : List Item) → Match L NotMatch a m x → Match L NotMatch a m z) → Apart a m x → Apart a m z
-    apart-map {m = m} f d = record { single = λ y k. f (only y) [] (d .single y k); items = ⊎-map (λ e. e) (f none m) (d .items) }
+    apart-map {m = m} f d = record { single = λ y k. f (only y) [] (d .single y k); items = ⊎-map (λ e. e) (f noAttributes m) (d .items) }
 
     items-join : {m₁ m₂ : List Item} (q : ℕ) → NoneOr (L .pattern q) m₁ → NoneOr (pattern.oneOrMore q) m₂ → NoneOr (pattern.oneOrMore q) (m₁ ++ m₂)
     items-join q (inl u) (inl v) = inl (ap₂ _++_ u v)
@@ -94,26 +94,26 @@ module _ (L : Lookups) where
 
       -- one attribute besides others, if there are any
       besides : {m : List Item} (A : Attributes) (y : ℕ) → A y ≡ true → Distinct L A → Singles A → NoneOr (pattern.oneOrMore q) m
-          → (A ∖ only y ≡ none) ⊎ Match L NotMatch (A ∖ only y) m (pattern.oneOrMore q) → Match L NotMatch A m (pattern.oneOrMore q)
+          → (A ∖ only y ≡ noAttributes) ⊎ Match L NotMatch (A ∖ only y) m (pattern.oneOrMore q) → Match L NotMatch A m (pattern.oneOrMore q)
       besides A y h u s b (inr d) = cast L NotMatch (one-and-rest A y h) refl (oneOrMore-2 (s y h) d disjoint)
         where
           disjoint : Disjoint L (only y) (A ∖ only y)
           disjoint x z e f same = ∖-only A y z f (u y z h (and-left (A z) (not (eqb y z)) f) (rw (← eqb-true y x e) at same))
       besides A y h u s b (inl z) = cast L NotMatch (ap (λ (B : Attributes). only y ∪ B) (sym z) ∙ one-and-rest A y h) refl (alone b)
         where
-          alone : {m : List Item} → NoneOr (pattern.oneOrMore q) m → Match L NotMatch (only y ∪ none) m (pattern.oneOrMore q)
+          alone : {m : List Item} → NoneOr (pattern.oneOrMore q) m → Match L NotMatch (only y ∪ noAttributes) m (pattern.oneOrMore q)
           alone (inl e) = cast L NotMatch (fun-ext (λ x. sym (or-false (eqb y x)))) (sym e) (oneOrMore-1 (s y h))
           alone (inr c) = oneOrMore-2 (s y h) c (λ x y e f. absurd (false≢true f))
 
       -- of a set below N
       abbrev Joined : List Item → ℕ → Attributes → Type 0
-      Joined m N A = ((x : ℕ) → A x ≡ true → x < N) → Distinct L A → Singles A → (A ≡ none) ⊎ Match L NotMatch A m (pattern.oneOrMore q)
+      Joined m N A = ((x : ℕ) → A x ≡ true → x < N) → Distinct L A → Singles A → (A ≡ noAttributes) ⊎ Match L NotMatch A m (pattern.oneOrMore q)
 
       joined : {m : List Item} → NoneOr (pattern.oneOrMore q) m → (N : ℕ) (A : Attributes) → Joined m N A
       joined b zero A l u s = inl (no-member A (λ x h. let z = l x h in omega arith))
       joined {m} b (suc N) A l u s = go (A N) refl (joined b N)
         where
-          go : (t : Bool) → A N ≡ t → ((B : Attributes) → Joined m N B) → (A ≡ none) ⊎ Match L NotMatch A m (pattern.oneOrMore q)
+          go : (t : Bool) → A N ≡ t → ((B : Attributes) → Joined m N B) → (A ≡ noAttributes) ⊎ Match L NotMatch A m (pattern.oneOrMore q)
           go false e rest = rest A (λ x h. let z = l x h in let y : ¬ (N ≡ x) = (λ k. true≢false (sym h ∙ ap A (sym k) ∙ e)) in omega arith) u s
           go true e rest =
               let member : (x : ℕ) → (A ∖ only N) x ≡ true → A x ≡ true = (λ x. and-left (A x) (not (eqb N x))) in
@@ -121,13 +121,13 @@ module _ (L : Lookups) where
               inr (besides A N e u s b (rest (A ∖ only N) below (distinct-part A (A ∖ only N) member u) (λ x h. s x (member x h))))
 
     module _ (it : ℕ → Item) (K : ℕ → Bool) (q : ℕ) where
-      steps : {a : Attributes} {m : List Item} → Match L NotMatch a m (pattern.oneOrMore q) → a ≡ none → (i j : ℕ) → i ≤ j → run it K i (j - i) ≡ m → Plus (Span L NotMatch none it K q) i j
+      steps : {a : Attributes} {m : List Item} → Match L NotMatch a m (pattern.oneOrMore q) → a ≡ noAttributes → (i j : ℕ) → i ≤ j → run it K i (j - i) ≡ m → Plus (Span L NotMatch noAttributes it K q) i j
       steps (oneOrMore-1 d) z i j l e = once (l, cast L NotMatch z (sym e) d)
       steps (oneOrMore-2 {a₁ = a₁} {a₂ = a₂} {m₁ = m₁} {m₂ = m₂} d₁ d₂ x) z i j l e =
           let s = run-split it K m₁ m₂ l e in
           more (s .after, cast L NotMatch (none-left a₁ a₂ z) (sym (s .first)) d₁) (steps d₂ (none-right a₁ a₂ z) (s .h) j (s .before) (s .second))
 
-      unsteps : {i j : ℕ} → Plus (Span L NotMatch none it K q) i j → (i ≤ j) × Match L NotMatch none (run it K i (j - i)) (pattern.oneOrMore q)
+      unsteps : {i j : ℕ} → Plus (Span L NotMatch noAttributes it K q) i j → (i ≤ j) × Match L NotMatch noAttributes (run it K i (j - i)) (pattern.oneOrMore q)
       unsteps (once s) = (s .0, oneOrMore-1 (s .1))
       unsteps (more s t) =
           let r = unsteps t in
@@ -135,14 +135,14 @@ module _ (L : Lookups) where
           let k = r .0 in
           (omega arith, cast L NotMatch refl (sym (run-join it K l k)) (oneOrMore-2 (s .1) (r .1) (λ x y h. absurd (false≢true h))))
 
-      pub span-oneOrMore : (p i j : ℕ) → L .pattern p ≡ pattern.oneOrMore q → Span L NotMatch none it K p i j ↔ Plus (Span L NotMatch none it K q) i j
+      pub span-oneOrMore : (p i j : ℕ) → L .pattern p ≡ pattern.oneOrMore q → Span L NotMatch noAttributes it K p i j ↔ Plus (Span L NotMatch noAttributes it K q) i j
       span-oneOrMore p i j e = (λ s. steps (rw e at (s .1)) refl i j (s .0) refl, λ s. let t = unsteps s in (t .0, rw e (t .1)))
 
       -- what a oneOrMore with attributes asks
       pub record Repeated (A : Attributes) (i j : ℕ) : Type 0 where
         pub ordered : i ≤ j
         pub single : (x : ℕ) → A x ≡ true → Match L NotMatch (only x) [] (L .pattern q)
-        pub items : (run it K i (j - i) ≡ []) ⊎ Plus (Span L NotMatch none it K q) i j
+        pub items : (run it K i (j - i) ≡ []) ⊎ Plus (Span L NotMatch noAttributes it K q) i j
 
       pub span-oneOrMore-attributes : Restricted L → (A : Attributes) (N x₀ : ℕ) → ((x : ℕ) → A x ≡ true → x < N) → A x₀ ≡ true → Distinct L A → (p i j : ℕ) → L .pattern p ≡ pattern.oneOrMore q
           → Span L NotMatch A it K p i j ↔ Repeated A i j

@@ -16,9 +16,9 @@ use Rattle.schema.specs.Views.{Pattern, patternBy, patternOf, empty, notAllowed
 use Rattle.schema.specs.declared.Field.the-variants.{APattern}
 use Rattle.schema.proofs.Fields.{pattern-a, pattern-b, pattern-or-none, PatternKind, is-empty, is-notAllowed, is-text, is-data, is-value, is-attribute, is-ref, is-oneOrMore, is-choice, is-group, is-interleave}
 use Rattle.schema.proofs.RowLaws.{right-size, in-table}
-use Rattle.places.specs.Paths.{isPair}
+use Rattle.places.specs.Paths.{sharingKind}
 use Rattle.places.specs.Places.{holdsWhole}
-use Rattle.rules.specs.Reach.{Operand, repeated, choice-first, choice-second, group-first, group-second, interleave-first, interleave-second, Part, operand, of-attribute, of-except, Reaches, here, there, Within, itself, down}
+use Rattle.rules.specs.Reach.{Operand, repeated, choice-first, choice-second, group-first, group-second, interleave-first, interleave-second, Subpattern, operand, of-attribute, of-except, Reaches, here, there, Within, itself, down}
 use Rattle.rules.specs.Job.{lookups}
 
 -- kind k and fields a and b make a pattern
@@ -26,8 +26,8 @@ pub data Makes (k a b : ℕ) : Pattern → Type 0 where
   makes-empty : k ≡ kind.empty → Makes k a b empty
   makes-notAllowed : k ≡ kind.notAllowed → Makes k a b notAllowed
   makes-text : k ≡ kind.text → Makes k a b text
-  makes-data : k ≡ kind.«data» → b ≡ kind.none → Makes k a b (dataAll a)
-  makes-except : k ≡ kind.«data» → b ≢ kind.none → Makes k a b (dataExcept a b)
+  makes-data : k ≡ kind.«data» → b ≡ kind.noRow → Makes k a b (dataAll a)
+  makes-except : k ≡ kind.«data» → b ≢ kind.noRow → Makes k a b (dataExcept a b)
   makes-value : k ≡ kind.value → Makes k a b (value a b)
   makes-attribute : k ≡ kind.attribute → Makes k a b (attribute a b)
   makes-ref : k ≡ kind.ref → Makes k a b (ref a)
@@ -63,7 +63,7 @@ made k a b =
     either P (eqb k 1) (λ e. makes-empty (eqb-true _ _ e)) (λ e₁.
     either P (eqb k 2) (λ e. makes-notAllowed (eqb-true _ _ e)) (λ e₂.
     either P (eqb k 3) (λ e. makes-text (eqb-true _ _ e)) (λ e₃.
-    either P (eqb k 4) (λ e. either P (eqb b kind.none) (λ f. makes-data (eqb-true _ _ e) (eqb-true _ _ f)) (λ f. makes-except (eqb-true _ _ e) (eqb-false _ _ f))) (λ e₄.
+    either P (eqb k 4) (λ e. either P (eqb b kind.noRow) (λ f. makes-data (eqb-true _ _ e) (eqb-true _ _ f)) (λ f. makes-except (eqb-true _ _ e) (eqb-false _ _ f))) (λ e₄.
     either P (eqb k 5) (λ e. makes-value (eqb-true _ _ e)) (λ e₅.
     either P (eqb k 7) (λ e. makes-attribute (eqb-true _ _ e)) (λ e₆.
     either P (eqb k 8) (λ e. makes-ref (eqb-true _ _ e)) (λ e₇.
@@ -77,7 +77,7 @@ row-makes s p e = subst (Makes (kindOf s p) (aOf s p) (bOf s p)) e (made (kindOf
 
 -- the kind and the fields of a row from its pattern
 module _ {k a b : ℕ} where
-  pub from-except : {t q : ℕ} → Makes k a b (dataExcept t q) → (k ≡ kind.«data») × (b ≡ q) × (b ≢ kind.none)
+  pub from-except : {t q : ℕ} → Makes k a b (dataExcept t q) → (k ≡ kind.«data») × (b ≡ q) × (b ≢ kind.noRow)
   from-except (makes-except e f) = (e, refl, f)
 
   pub from-oneOrMore : {p : ℕ} → Makes k a b (oneOrMore p) → (k ≡ kind.oneOrMore) × (a ≡ p)
@@ -100,12 +100,12 @@ module _ {k a b : ℕ} where
 
 -- the operands of a group or interleave at row p
 pub record Sides (s : List ℕ) (p p₁ p₂ : ℕ) : Type 0 where
-  pub is-pair : isPair (kindOf s p) ≡ true
+  pub is-sharing : sharingKind (kindOf s p) ≡ true
   pub not-whole : holdsWhole (kindOf s p) ≡ false
   pub first : childA s p ≡ p₁
   pub second : childB s p ≡ p₂
-  pub first-child : Child s p p₁
-  pub second-child : Child s p p₂
+  pub first-child : Child s p₁ p
+  pub second-child : Child s p₂ p
   pub first-pattern : isPattern (sortOf s p₁) ≡ true
   pub second-pattern : isPattern (sortOf s p₂) ≡ true
 
@@ -117,7 +117,7 @@ module _ {strings : ℕ} {s : List ℕ} (right : RowsRight strings s) where
   module _ (p : ℕ) where
     -- r is a child of p and a pattern
     abbrev Sub : ℕ → Type 0
-    Sub r = Child s p r × (isPattern (sortOf s r) ≡ true)
+    Sub r = Child s r p × (isPattern (sortOf s r) ≡ true)
 
     field-a : {k : ℕ} → kindOf s p ≡ k → k ≢ 0 → shapeOf k .a ≡ APattern → Sub (aOf s p)
     field-a {k} e f g = let n = pattern-a strings s right p (has-kind e f) k e g in (by-a (n .0) refl, n .1)
@@ -125,11 +125,11 @@ module _ {strings : ℕ} {s : List ℕ} (right : RowsRight strings s) where
     field-b : {k : ℕ} → kindOf s p ≡ k → k ≢ 0 → shapeOf k .b ≡ APattern → Sub (bOf s p)
     field-b {k} e f g = let n = pattern-b strings s right p (has-kind e f) k e g in (by-b (n .0) refl, n .1)
 
-    field-except : kindOf s p ≡ kind.«data» → bOf s p ≢ kind.none → Sub (bOf s p)
+    field-except : kindOf s p ≡ kind.«data» → bOf s p ≢ kind.noRow → Sub (bOf s p)
     unfolding shapeOf
     field-except e f = ⊎-elim (λ z. absurd (f z)) (λ n. (by-b (n .0) refl, n .1)) (pattern-or-none strings s right p (has-kind e (λ z. omega arith)) kind.«data» e refl)
 
-    part-sub : {r : ℕ} {x : Pattern} → Part r x → Makes (kindOf s p) (aOf s p) (bOf s p) x → Sub r
+    part-sub : {r : ℕ} {x : Pattern} → Subpattern r x → Makes (kindOf s p) (aOf s p) (bOf s p) x → Sub r
     unfolding shapeOf
     part-sub (operand repeated) (makes-oneOrMore e) = field-a e (λ z. omega arith) refl
     part-sub (operand choice-first) (makes-choice e) = field-a e (λ z. omega arith) refl
@@ -142,18 +142,18 @@ module _ {strings : ℕ} {s : List ℕ} (right : RowsRight strings s) where
     part-sub of-except (makes-except e f) = field-except e f
 
     -- a part of the pattern at row p is a child of p, and a pattern
-    pub part-child : {r : ℕ} → Part r (patternOf s p) → Child s p r
+    pub part-child : {r : ℕ} → Subpattern r (patternOf s p) → Child s r p
     part-child i = part-sub i (row-makes s p refl) .0
 
-    pub part-pattern : {r : ℕ} → Part r (patternOf s p) → isPattern (sortOf s r) ≡ true
+    pub part-pattern : {r : ℕ} → Subpattern r (patternOf s p) → isPattern (sortOf s r) ≡ true
     part-pattern i = part-sub i (row-makes s p refl) .1
 
-    sides : {k : ℕ} → kindOf s p ≡ k → k ≢ 0 → isPair k ≡ true → holdsWhole k ≡ false → shapeOf k .a ≡ APattern → shapeOf k .b ≡ APattern → Sides s p (aOf s p) (bOf s p)
+    sides : {k : ℕ} → kindOf s p ≡ k → k ≢ 0 → sharingKind k ≡ true → holdsWhole k ≡ false → shapeOf k .a ≡ APattern → shapeOf k .b ≡ APattern → Sides s p (aOf s p) (bOf s p)
     sides {k} e n i w f g =
         let a = pattern-a strings s right p (has-kind e n) k e f in
         let b = pattern-b strings s right p (has-kind e n) k e g in
         record {
-          is-pair = ap isPair e ∙ i;
+          is-sharing = ap sharingKind e ∙ i;
           not-whole = ap holdsWhole e ∙ w;
           first = rw (a .0);
           second = rw (b .0);
@@ -172,7 +172,7 @@ module _ {strings : ℕ} {s : List ℕ} (right : RowsRight strings s) where
     interleave-sides e = let m = from-interleave (row-makes s p e) in rw (m .1, m .2) at (sides (m .0) (λ z. omega arith) refl refl refl refl)
 
     -- the operand of a oneOrMore
-    pub repeated-sides : {q : ℕ} → patternOf s p ≡ oneOrMore q → (childA s p ≡ q) × Child s p q × (isPattern (sortOf s q) ≡ true)
+    pub repeated-sides : {q : ℕ} → patternOf s p ≡ oneOrMore q → (childA s p ≡ q) × Child s q p × (isPattern (sortOf s q) ≡ true)
     unfolding shapeOf
     repeated-sides e =
         let m = from-oneOrMore (row-makes s p e) in
@@ -215,8 +215,8 @@ module _ {strings : ℕ} (J : Tables) (right : RowsRight strings (J .schema)) wh
   inside-row p h = inside h p refl
 
 -- what is a child of p, or below one, is below p
-under : {s : List ℕ} {p q r : ℕ} → Child s p q → (r ≡ q) ⊎ Below s r q → Below s r p
-under {s} {p} d (inl e) = child (subst (Child s p) (sym e) d)
+under : {s : List ℕ} {p q r : ℕ} → Child s q p → (r ≡ q) ⊎ Below s r q → Below s r p
+under {s} {p} d (inl e) = child (subst (λ m. Child s m p) (sym e) d)
 under d (inr b) = deeper d b
 
 -- what occurs in p is p or below it
@@ -224,5 +224,5 @@ pub occurs-below : {s : List ℕ} {p r : ℕ} → Occurs s r p → (r ≡ p) ⊎
 occurs-below itself = inl refl
 occurs-below (within c d o) = inr (under d (occurs-below o))
 
-pub child-below : {s : List ℕ} {p q r : ℕ} → Child s p q → Occurs s r q → Below s r p
+pub child-below : {s : List ℕ} {p q r : ℕ} → Child s q p → Occurs s r q → Below s r p
 child-below d o = under d (occurs-below o)

@@ -7,7 +7,7 @@ use mathlib.Core.Logic.{_⊎_, inl, inr}
 use borrow.Author.Tests.{eqb-true}
 use Rattle.schema.specs.Views.{Pattern}
 use Rattle.schema.specs.Views as pattern
-use Rattle.rules.specs.Items.{Item, string, Attributes, none, Lookups}
+use Rattle.rules.specs.Items.{Item, string, Attributes, noAttributes, Lookups}
 use Rattle.rules.specs.Items as item
 use Rattle.rules.specs.Rules.{Interleaves, interleaves-1, interleaves-2, interleaves-3, ws-empty, ws-string, Match, WeakMatch, text-1, text-2, oneOrMore-1, oneOrMore-2, attribute, element, data-1, weak-match-3}
 use Rattle.tables.proofs.Booleans.{or-either}
@@ -19,18 +19,18 @@ second-first x y = interleaves-3 (x ∷ []) (interleaves-2 (y ∷ []) interleave
 
 module _ (L : Lookups) (NotMatch : List ℕ → ℕ → Type 0) where
   -- text takes no string, and more than one
-  pub no-string : Match L NotMatch none [] pattern.text
+  pub no-string : Match L NotMatch noAttributes [] pattern.text
   no-string = text-1
 
-  pub two-strings : (s₁ s₂ : List ℕ) → Match L NotMatch none (string s₁ ∷ string s₂ ∷ []) pattern.text
+  pub two-strings : (s₁ s₂ : List ℕ) → Match L NotMatch noAttributes (string s₁ ∷ string s₂ ∷ []) pattern.text
   two-strings s₁ s₂ = text-2 s₂ (text-2 s₁ text-1)
 
   -- whitespace after an element needs no pattern of its own
-  pub whitespace-after : {e d : ℕ} {s : List ℕ} → L .whitespace s ≡ true → Paired L NotMatch e d → Match L NotMatch none (item.element e ∷ string s ∷ []) (pattern.ref d)
+  pub whitespace-after : {e d : ℕ} {s : List ℕ} → L .whitespace s ≡ true → Paired L NotMatch e d → Match L NotMatch noAttributes (item.element e ∷ string s ∷ []) (pattern.ref d)
   whitespace-after {e} h p = element e (p .defined) (p .ordered) (p .named) (p .content) ws-empty (ws-string h)
 
   -- no children are the empty string to a datatype
-  pub no-children : (t : ℕ) → WeakMatch L NotMatch none [] (pattern.dataAll t)
+  pub no-children : (t : ℕ) → WeakMatch L NotMatch noAttributes [] (pattern.dataAll t)
   no-children t = weak-match-3 data-1
 
   -- the attributes that a repeated attribute pattern takes have names of their own

@@ -7,7 +7,7 @@ use mathlib.Core.Logic.{inl, inr, _↔_, Iff·rfl}
 use native.Mathlib.Omega.{arith}
 use Rattle.schema.specs.Views.{Pattern, empty, notAllowed, text, attribute, ref, choice, noPattern}
 use Rattle.relations.specs.Relations.{Relation, Or}
-use Rattle.rules.specs.Items.{Item, element, string, Attributes, none, Lookups}
+use Rattle.rules.specs.Items.{Item, element, string, Attributes, noAttributes, Lookups}
 use Rattle.rules.specs.Rules.{Match, ws-empty}
 use Rattle.rules.specs.Reach.{roleOf, oneString}
 use Rattle.rules.specs.Spans.{Paired, Span, CleanAt, run}
@@ -18,7 +18,7 @@ use Rattle.rules.proofs.Sequences.{hasElement}
 -- no attributes, and the items in [i, j) are as asked
 pub record ItemsOnly (A : Attributes) (it : ℕ → Item) (K : ℕ → Bool) (Asked : List Item → Type 0) (i j : ℕ) : Type 0 where
   pub ordered : i ≤ j
-  pub free : A ≡ none
+  pub free : A ≡ noAttributes
   pub items : Asked (run it K i (j - i))
 
 module _ (L : Lookups) (NotMatch : List ℕ → ℕ → Type 0) where
@@ -49,7 +49,7 @@ module _ (L : Lookups) (NotMatch : List ℕ → ℕ → Type 0) where
     span-noPattern e s = by-kind noPattern e .0 s .1
 
     -- a kind that takes items and no attribute
-    pub items-only : (x : Pattern) (Asked : List Item → Type 0) → Step L NotMatch x A (run it K i (j - i)) ↔ ((A ≡ none) × Asked (run it K i (j - i)))
+    pub items-only : (x : Pattern) (Asked : List Item → Type 0) → Step L NotMatch x A (run it K i (j - i)) ↔ ((A ≡ noAttributes) × Asked (run it K i (j - i)))
         → L .pattern p ≡ x → Span L NotMatch A it K p i j ↔ ItemsOnly A it K Asked i j
     items-only x Asked f e = (
       λ s. let t = f .0 (by-kind x e .0 s .1) in record { ordered = s .0; free = t .0; items = t .1 },
@@ -63,7 +63,7 @@ module _ (L : Lookups) (NotMatch : List ℕ → ℕ → Type 0) where
     span-text = items-only text (λ m. hasElement m ≡ false) Iff·rfl
 
     -- a pattern of one string
-    pub span-string : roleOf (L .pattern p) ≡ oneString → Span L NotMatch A it K p i j ↔ ItemsOnly A it K (One (λ s. Match L NotMatch none (string s ∷ []) (L .pattern p))) i j
+    pub span-string : roleOf (L .pattern p) ≡ oneString → Span L NotMatch A it K p i j ↔ ItemsOnly A it K (One (λ s. Match L NotMatch noAttributes (string s ∷ []) (L .pattern p))) i j
     span-string e =
         let f = string-alone L NotMatch {a = A} {m = run it K i (j - i)} (L .pattern p) e in (
           λ s. let t = f .0 (s .1) in record { ordered = s .0; free = t .0; items = t .1 },
@@ -73,12 +73,12 @@ module _ (L : Lookups) (NotMatch : List ℕ → ℕ → Type 0) where
     pub span-ref : {d : ℕ} → CleanAt L it K → L .pattern p ≡ ref d → Span L NotMatch A it K p i j ↔ ItemsOnly A it K (OnePaired d) i j
     span-ref {d} clean = items-only (ref d) (OnePaired d) (to, from)
       where
-        to : ElementMatch L NotMatch A (run it K i (j - i)) d → (A ≡ none) × OnePaired d (run it K i (j - i))
+        to : ElementMatch L NotMatch A (run it K i (j - i)) d → (A ≡ noAttributes) × OnePaired d (run it K i (j - i))
         to s =
             let z = clean-element L (s .row) (rw (s .sequence) at (clean-run L it K clean i (j - i))) (s .before) (s .after) in
             (s .set, (s .row, s .sequence ∙ ap₂ (λ (w v : List Item). w ++ element (s .row) ∷ v) (z .0) (z .1), s .paired))
 
-        from : (A ≡ none) × OnePaired d (run it K i (j - i)) → ElementMatch L NotMatch A (run it K i (j - i)) d
+        from : (A ≡ noAttributes) × OnePaired d (run it K i (j - i)) → ElementMatch L NotMatch A (run it K i (j - i)) d
         from s = record { row = s .1 .0; ws₁ = []; ws₂ = []; set = s .0; sequence = s .1 .1; paired = s .1 .2; before = ws-empty; after = ws-empty }
 
     pub span-attribute : {nc q : ℕ} → L .pattern p ≡ attribute nc q → Span L NotMatch A it K p i j ↔ ((i ≤ j) × AttributeMatch L NotMatch A (run it K i (j - i)) nc (L .pattern q))

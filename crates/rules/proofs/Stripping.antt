@@ -6,14 +6,14 @@ use mathlib.Core.List.{List, [], _∷_, _++_}
 use mathlib.Core.Logic.{_⊎_, inl, inr}
 use Rattle.schema.specs.Views.{Pattern}
 use Rattle.schema.specs.Views as pattern
-use Rattle.rules.specs.Items.{Item, string, Attributes, none, Lookups}
+use Rattle.rules.specs.Items.{Item, string, Attributes, noAttributes, Lookups}
 use Rattle.rules.specs.Items as item
 use Rattle.rules.specs.Rules.{Ws, ws-empty, ws-string, Match, choice-1, choice-2, group, empty, text-1, text-2, oneOrMore-1, oneOrMore-2, interleave, attribute, element, value, data-1, data-2}
 use Rattle.rules.proofs.Interleavings.{Shuffle, done, left, right, shuffle, interleaved, kept-shuffle}
 use Rattle.rules.proofs.Inversion.{cast, step, stepwise}
 use Rattle.rules.proofs.Occurrences.{takes-nothing}
 use Rattle.rules.specs.Reach.{repeated, choice-first, choice-second, group-first, group-second, interleave-first, interleave-second, Reaches, here, there, isSimple}
-use Rattle.rules.specs.Restricted.{Restricted, PairRestricted}
+use Rattle.rules.specs.Restricted.{Restricted, SidesRestricted}
 use Rattle.rules.specs.Spans.{added}
 use Rattle.rules.proofs.Runs.{kept, kept-append}
 use Rattle.rules.proofs.Sequences.{hasElement, strings-append}
@@ -76,7 +76,7 @@ module _ (L : Lookups) where
       both-without : Match L NotMatch a₁ (stripped l) (L .pattern p₁) → Match L NotMatch a₂ (stripped r) (L .pattern p₂) → Sides a₁ a₂ l r p₁ p₂
       both-strings : hasElement l ≡ false → hasElement r ≡ false → Reaches L isSimple (L .pattern p₁) ⊎ Reaches L isSimple (L .pattern p₂) → Sides a₁ a₂ l r p₁ p₂
 
-    sides : {a₁ a₂ : Attributes} {l r : List Item} {p₁ p₂ : ℕ} → PairRestricted L p₁ p₂ → Match L NotMatch a₁ l (L .pattern p₁) → Match L NotMatch a₂ r (L .pattern p₂)
+    sides : {a₁ a₂ : Attributes} {l r : List Item} {p₁ p₂ : ℕ} → SidesRestricted L p₁ p₂ → Match L NotMatch a₁ l (L .pattern p₁) → Match L NotMatch a₂ r (L .pattern p₂)
         → Stripped a₁ l (L .pattern p₁) → Stripped a₂ r (L .pattern p₂) → Sides a₁ a₂ l r p₁ p₂
     sides q d₁ d₂ (without c₁) (without c₂) = both-without c₁ c₂
     sides q d₁ d₂ (strings h i) c = both-strings h (ap hasElement (takes-nothing L NotMatch d₂ (q .first i))) (inl i)
@@ -87,7 +87,7 @@ module _ (L : Lookups) where
       repeat-not-simple p q e (here h) = false≢true h
       repeat-not-simple p q e (there r repeated i) = R .repeats-sequenced p q e i
 
-      text-stripped : {m : List Item} → Match L NotMatch none m pattern.text → Match L NotMatch none (stripped m) pattern.text
+      text-stripped : {m : List Item} → Match L NotMatch noAttributes m pattern.text → Match L NotMatch noAttributes (stripped m) pattern.text
       text-stripped {m} d = stepwise L NotMatch pattern.text .1 (refl, strings-kept notWhitespace m (step L NotMatch d .1))
 
       stripped-match : {a : Attributes} {m : List Item} {x : Pattern} → Match L NotMatch a m x → (p : ℕ) → L .pattern p ≡ x → Stripped a m x

@@ -12,32 +12,32 @@ use Rattle.schema.specs.Relations.{Child, by-a, by-b, Below, child, deeper}
 use Rattle.schema.specs.Views.{Pattern, patternOf, ref}
 use Rattle.places.proofs.Sweep.{further}
 use Rattle.restrictions.specs.Schema.{SchemaPasses}
-use Rattle.rules.specs.Items.{Item, element, Attributes, none, Lookups}
+use Rattle.rules.specs.Items.{Item, element, Attributes, noAttributes, Lookups}
 use Rattle.rules.specs.Rules.{choice-1, choice-2, Matches, Proved}
 use Rattle.rules.specs.Rules as rule
 use Rattle.rules.specs.Job.{lookups, Valid, StartNames, by-ref}
-use Rattle.rules.specs.Reach.{Part, operand, choice-first, choice-second}
+use Rattle.rules.specs.Reach.{Subpattern, operand, choice-first, choice-second}
 use Rattle.rules.specs.Restricted.{Starts, starts-notAllowed, starts-ref, starts-choice}
 use Rattle.rules.proofs.RowPatterns.{row-makes, from-notAllowed, from-ref, from-choice, part-child}
 use Rattle.rules.proofs.Paths.{start-kind, start-child, start-starts}
 
 -- what is below p is a child of p or below one
-below-child : {s : List ℕ} {r p : ℕ} → Below s r p → (q : ℕ) × Child s p q × ((r ≡ q) ⊎ Below s r q)
+below-child : {s : List ℕ} {r p : ℕ} → Below s r p → (q : ℕ) × Child s q p × ((r ≡ q) ⊎ Below s r q)
 below-child {r = r} (child c) = (r, c, inl refl)
 below-child (deeper {q = q} c b) = (q, c, inr b)
 
 module _ {s : List ℕ} {p q : ℕ} where
   -- the children of a row of kind k, where field b, or both fields, name none
-  field-a-child : (k : ℕ) → ((x : ℕ) → names s p (shapeOf k .b) x ≡ false) → kindOf s p ≡ k → Child s p q → aOf s p ≡ q
+  field-a-child : (k : ℕ) → ((x : ℕ) → names s p (shapeOf k .b) x ≡ false) → kindOf s p ≡ k → Child s q p → aOf s p ≡ q
   field-a-child k f e (by-a n g) = g
   field-a-child k f e (by-b n g) = absurd (false≢true (sym (f (bOf s p)) ∙ rw e at n))
 
-  childless : (k : ℕ) → ((x : ℕ) → names s p (shapeOf k .a) x ≡ false) → ((x : ℕ) → names s p (shapeOf k .b) x ≡ false) → kindOf s p ≡ k → ¬ Child s p q
+  childless : (k : ℕ) → ((x : ℕ) → names s p (shapeOf k .a) x ≡ false) → ((x : ℕ) → names s p (shapeOf k .b) x ≡ false) → kindOf s p ≡ k → ¬ Child s q p
   childless k f g e (by-a n h) = false≢true (sym (f (aOf s p)) ∙ rw e at n)
   childless k f g e (by-b n h) = false≢true (sym (g (bOf s p)) ∙ rw e at n)
 
   -- a child is what one of the fields holds
-  child-side : {a b : ℕ} → aOf s p ≡ a → bOf s p ≡ b → Child s p q → (q ≡ a) ⊎ (q ≡ b)
+  child-side : {a b : ℕ} → aOf s p ≡ a → bOf s p ≡ b → Child s q p → (q ≡ a) ⊎ (q ≡ b)
   child-side f g (by-a n h) = inl (sym h ∙ f)
   child-side f g (by-b n h) = inr (sym h ∙ g)
 
@@ -51,12 +51,12 @@ module _ {strings : ℕ} (J : Tables) (pass : SchemaPasses strings (J .schema)) 
   -- what matches a pattern below start matches a ref that stands there
   valid-to : {a : Attributes} {m : List Item} {x : Pattern} → Starts L x → (p : ℕ) → patternOf s p ≡ x → Below s p (rowsOf s - 1) → Matches L a m x → (d : ℕ) × StartNames J d × Matches L a m (ref d)
   valid-to (starts-ref {d = d}) p f b (rule.element e i o c w w₁ w₂) = let k = from-ref (row-makes s p f) in (d, by-ref p b (k .0) (k .1), rule.element e i o c w w₁ w₂)
-  valid-to (starts-choice {p₁ = q} k₁ k₂) p f b (choice-1 m) = valid-to k₁ q refl (further b (part-child (pass .rows) p (subst (Part q) (sym f) (operand choice-first)))) m
-  valid-to (starts-choice {p₂ = q} k₁ k₂) p f b (choice-2 m) = valid-to k₂ q refl (further b (part-child (pass .rows) p (subst (Part q) (sym f) (operand choice-second)))) m
+  valid-to (starts-choice {p₁ = q} k₁ k₂) p f b (choice-1 m) = valid-to k₁ q refl (further b (part-child (pass .rows) p (subst (Subpattern q) (sym f) (operand choice-first)))) m
+  valid-to (starts-choice {p₂ = q} k₁ k₂) p f b (choice-2 m) = valid-to k₂ q refl (further b (part-child (pass .rows) p (subst (Subpattern q) (sym f) (operand choice-second)))) m
 
   -- an element that is proved against the definition that the ref at row r names matches every pattern of start that is, or has below it, that ref
   module _ (e r d : ℕ) (k : kindOf s r ≡ kind.ref) (names-d : aOf s r ≡ d) (proved : Proved L e d) where
-    valid-from : {x : Pattern} → Starts L x → (p : ℕ) → patternOf s p ≡ x → (r ≡ p) ⊎ Below s r p → Matches L none (element e ∷ []) x
+    valid-from : {x : Pattern} → Starts L x → (p : ℕ) → patternOf s p ≡ x → (r ≡ p) ⊎ Below s r p → Matches L noAttributes (element e ∷ []) x
     unfolding shapeOf
     valid-from starts-notAllowed p f (inl z) = absurd (let i = from-notAllowed (row-makes s p f) in let j = ap (kindOf s) z in omega arith)
     valid-from starts-notAllowed p f (inr b) = absurd (childless kind.notAllowed (λ x. refl) (λ x. refl) (from-notAllowed (row-makes s p f)) (below-child b .1))
@@ -72,7 +72,7 @@ module _ {strings : ℕ} (J : Tables) (pass : SchemaPasses strings (J .schema)) 
         (child-side (i .1) (i .2) (c .1))
 
   -- start has one child
-  started : (e d : ℕ) → StartNames J d → Proved L e d → Matches L none (element e ∷ []) (patternOf s (aOf s (rowsOf s - 1)))
+  started : (e d : ℕ) → StartNames J d → Proved L e d → Matches L noAttributes (element e ∷ []) (patternOf s (aOf s (rowsOf s - 1)))
   unfolding shapeOf
   started e d (by-ref r b k f) proved =
       let c = below-child b in

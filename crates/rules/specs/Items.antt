@@ -15,8 +15,8 @@ abbrev pub Attributes : Type 0
 Attributes = ℕ → Bool
 
 -- { }
-abbrev pub none : Attributes
-none x = false
+abbrev pub noAttributes : Attributes
+noAttributes x = false
 
 -- a set with a single member
 abbrev pub only : ℕ → Attributes

@@ -13,7 +13,7 @@ use Rattle.schema.specs.Relations.{Below}
 use Rattle.classes.specs.Membership.{inClass}
 use Rattle.instance.specs.Nodes.{kindOf, aOf, bOf, cOf, nodesOf, isAttribute, SameName}
 use Rattle.instance.specs.Elements.{isElement, childrenOf}
-use Rattle.rules.specs.Items.{Item, element, string, none, Lookups}
+use Rattle.rules.specs.Items.{Item, element, string, noAttributes, Lookups}
 use Rattle.rules.specs.Rules.{Matches, Proved}
 
 -- datatypeEqual of 9.3.9 by document 01's numbers: 0 is string, 1 token
@@ -53,7 +53,7 @@ module _ (J : Tables) where
 
   -- (valid) of 9.4: the root with no attributes beside it matches the pattern of start
   abbrev pub Valid : Type 0
-  Valid = Matches lookups none (element 0 ∷ []) (patternOf (J .schema) (schema.aOf (J .schema) startRow))
+  Valid = Matches lookups noAttributes (element 0 ∷ []) (patternOf (J .schema) (schema.aOf (J .schema) startRow))
 
   -- the start names a definition when a ref row below start points to it
   pub data StartNames (d : ℕ) : Type 0 where

@@ -46,10 +46,10 @@ pub data Operand : ℕ → Pattern → Type 0 where
   interleave-second : {p q : ℕ} → Operand q (interleave p q)
 
 -- a pattern that stands directly below another: an operand, the pattern of an attribute, an except
-pub data Part : ℕ → Pattern → Type 0 where
-  operand : {p : ℕ} {x : Pattern} → Operand p x → Part p x
-  of-attribute : {nc p : ℕ} → Part p (attribute nc p)
-  of-except : {t p : ℕ} → Part p (dataExcept t p)
+pub data Subpattern : ℕ → Pattern → Type 0 where
+  operand : {p : ℕ} {x : Pattern} → Operand p x → Subpattern p x
+  of-attribute : {nc p : ℕ} → Subpattern p (attribute nc p)
+  of-except : {t p : ℕ} → Subpattern p (dataExcept t p)
 
 abbrev pub shares : Role → Bool
 shares strings = false

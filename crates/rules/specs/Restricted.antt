@@ -5,7 +5,7 @@ use mathlib.Core.Bool.{Bool, true}
 use mathlib.Core.List.{List}
 use Rattle.schema.specs.Views.{Pattern, notAllowed, dataAll, dataExcept, value, ref, oneOrMore, choice, group, interleave, noPattern}
 use Rattle.rules.specs.Items.{Item, Lookups}
-use Rattle.rules.specs.Reach.{Part, Reaches, Within, isSharing, isSimple, takesAny, namesAttribute, takes}
+use Rattle.rules.specs.Reach.{Subpattern, Reaches, Within, isSharing, isSimple, takesAny, namesAttribute, takes}
 
 module _ (L : Lookups) where
   -- what may stand in an except (10.2.5)
@@ -31,17 +31,17 @@ module _ (L : Lookups) where
   Sequenced p₁ p₂ = Reaches L isSimple (L .pattern p₁) → ¬ Reaches L takesAny (L .pattern p₂)
 
   -- a group or interleave: no attribute name on both sides (10.4), and what 10.3 asks of the two
-  pub record PairRestricted (p₁ p₂ : ℕ) : Type 0 where
+  pub record SidesRestricted (p₁ p₂ : ℕ) : Type 0 where
     pub attributes : (x : ℕ) → Reaches L (namesAttribute L x) (L .pattern p₁) → ¬ Reaches L (namesAttribute L x) (L .pattern p₂)
     pub first : Sequenced p₁ p₂
     pub second : Sequenced p₂ p₁
 
   pub record Restricted : Type 0 where
     pub bounded : (p : ℕ) → L .rows ≤ p → L .pattern p ≡ noPattern
-    pub falls : (p q : ℕ) → Part q (L .pattern p) → q < p
+    pub falls : (p q : ℕ) → Subpattern q (L .pattern p) → q < p
     pub same-name : (x : ℕ) → L .SameName x x
-    pub groups : (p p₁ p₂ : ℕ) → L .pattern p ≡ group p₁ p₂ → PairRestricted p₁ p₂
-    pub interleaves : (p p₁ p₂ : ℕ) → L .pattern p ≡ interleave p₁ p₂ → PairRestricted p₁ p₂
+    pub groups : (p p₁ p₂ : ℕ) → L .pattern p ≡ group p₁ p₂ → SidesRestricted p₁ p₂
+    pub interleaves : (p p₁ p₂ : ℕ) → L .pattern p ≡ interleave p₁ p₂ → SidesRestricted p₁ p₂
     -- 10.5: no item can go to either side of an interleave
     pub items : (p p₁ p₂ : ℕ) → L .pattern p ≡ interleave p₁ p₂ → (y : Item) → Reaches L (takes L y) (L .pattern p₁) → ¬ Reaches L (takes L y) (L .pattern p₂)
     pub repeats-flat : (p q : ℕ) → L .pattern p ≡ oneOrMore q → Flat (L .pattern q)

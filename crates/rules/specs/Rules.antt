@@ -5,7 +5,7 @@ use mathlib.Core.Bool.{true}
 use mathlib.Core.List.{List, [], _∷_, _++_}
 use Rattle.schema.specs.Views.{Pattern}
 use Rattle.schema.specs.Views as pattern
-use Rattle.rules.specs.Items.{Item, string, Attributes, none, only, _∪_, Lookups}
+use Rattle.rules.specs.Items.{Item, string, Attributes, noAttributes, only, _∪_, Lookups}
 use Rattle.rules.specs.Items as item
 
 -- m₁ interleaves m₂; m₃ (9.3.6)
@@ -42,22 +42,22 @@ module _ (L : Lookups) where
         -- 9.3.2
         group : {a₁ a₂ : Attributes} {m₁ m₂ : List Item} {p₁ p₂ : ℕ} → Match a₁ m₁ (L .pattern p₁) → Match a₂ m₂ (L .pattern p₂) → Match (a₁ ∪ a₂) (m₁ ++ m₂) (pattern.group p₁ p₂)
         -- 9.3.3
-        empty : Match none [] pattern.empty
+        empty : Match noAttributes [] pattern.empty
         -- 9.3.4
-        text-1 : Match none [] pattern.text
-        text-2 : {m : List Item} (s : List ℕ) → Match none m pattern.text → Match none (m ++ (string s ∷ [])) pattern.text
+        text-1 : Match noAttributes [] pattern.text
+        text-2 : {m : List Item} (s : List ℕ) → Match noAttributes m pattern.text → Match noAttributes (m ++ (string s ∷ [])) pattern.text
         -- 9.3.5
         oneOrMore-1 : {a : Attributes} {m : List Item} {p : ℕ} → Match a m (L .pattern p) → Match a m (pattern.oneOrMore p)
         oneOrMore-2 : {a₁ a₂ : Attributes} {m₁ m₂ : List Item} {p : ℕ} → Match a₁ m₁ (L .pattern p) → Match a₂ m₂ (pattern.oneOrMore p) → Disjoint a₁ a₂ → Match (a₁ ∪ a₂) (m₁ ++ m₂) (pattern.oneOrMore p)
         -- 9.3.6
         interleave : {a₁ a₂ : Attributes} {m₁ m₂ m₃ : List Item} {p₁ p₂ : ℕ} → Match a₁ m₁ (L .pattern p₁) → Match a₂ m₂ (L .pattern p₂) → Interleaves m₃ m₁ m₂ → Match (a₁ ∪ a₂) m₃ (pattern.interleave p₁ p₂)
         -- 9.3.7
-        attribute : {nc p : ℕ} (x : ℕ) → L .inClass nc x ≡ true → WeakMatch none (string (L .value x) ∷ []) (L .pattern p) → Match (only x) [] (pattern.attribute nc p)
-        element : {d : ℕ} (e : ℕ) {ws₁ ws₂ : List Item} → L .isDefinition d ≡ true → OkAsChildren (L .children e) → L .inClass (L .nameClass d) e ≡ true → WeakMatch (L .attributes e) (L .children e) (L .pattern (L .content d)) → Ws ws₁ → Ws ws₂ → Match none (ws₁ ++ item.element e ∷ ws₂) (pattern.ref d)
+        attribute : {nc p : ℕ} (x : ℕ) → L .inClass nc x ≡ true → WeakMatch noAttributes (string (L .value x) ∷ []) (L .pattern p) → Match (only x) [] (pattern.attribute nc p)
+        element : {d : ℕ} (e : ℕ) {ws₁ ws₂ : List Item} → L .isDefinition d ≡ true → OkAsChildren (L .children e) → L .inClass (L .nameClass d) e ≡ true → WeakMatch (L .attributes e) (L .children e) (L .pattern (L .content d)) → Ws ws₁ → Ws ws₂ → Match noAttributes (ws₁ ++ item.element e ∷ ws₂) (pattern.ref d)
         -- 9.3.8; both datatypes allow every string
-        value : {t k : ℕ} {s : List ℕ} → L .Equal t s (L .text k) → Match none (string s ∷ []) (pattern.value t k)
-        data-1 : {t : ℕ} {s : List ℕ} → Match none (string s ∷ []) (pattern.dataAll t)
-        data-2 : {t p : ℕ} {s : List ℕ} → NotMatch s p → Match none (string s ∷ []) (pattern.dataExcept t p)
+        value : {t k : ℕ} {s : List ℕ} → L .Equal t s (L .text k) → Match noAttributes (string s ∷ []) (pattern.value t k)
+        data-1 : {t : ℕ} {s : List ℕ} → Match noAttributes (string s ∷ []) (pattern.dataAll t)
+        data-2 : {t p : ℕ} {s : List ℕ} → NotMatch s p → Match noAttributes (string s ∷ []) (pattern.dataExcept t p)
 
       -- a; m =~weak p (9.3.7)
       pub data WeakMatch : Attributes → List Item → Pattern → Type 0 where
@@ -69,11 +69,11 @@ module _ (L : Lookups) where
   -- Where no data stands in its own except, as in every schema that passes, stratum `rows` is the literal `not` of the rules (proofs/Strata).
   unfoldable pub NotMatchBy : ℕ → List ℕ → ℕ → Type 0
   NotMatchBy zero s p = ⊥
-  NotMatchBy (suc n) s p = ¬ Match (NotMatchBy n) none (string s ∷ []) (L .pattern p)
+  NotMatchBy (suc n) s p = ¬ Match (NotMatchBy n) noAttributes (string s ∷ []) (L .pattern p)
 
   abbrev pub Matches : Attributes → List Item → Pattern → Type 0
   Matches = Match (NotMatchBy (L .rows))
 
   -- an element as a sequence of that child alone, with no attributes beside it, matches a ref to the definition
   abbrev pub Proved : ℕ → ℕ → Type 0
-  Proved e d = Matches none (item.element e ∷ []) (pattern.ref d)
+  Proved e d = Matches noAttributes (item.element e ∷ []) (pattern.ref d)

@@ -11,20 +11,20 @@ use borrow.Author.Tests.{eqb-true, leb-true}
 use Rattle.tables.proofs.Booleans.{and-both, or-either, either}
 use Rattle.schema.specs.Kinds as kind
 use Rattle.schema.specs.Rows.{rowsOf, kindOf, aOf, bOf, shapeOf, sortOf, isPattern, names, namesA, namesB}
-use Rattle.schema.specs.RowRule.{fieldRight, sortRight, usesBelow, rowRight, RowsRight, bad-row}
+use Rattle.schema.specs.RowRule.{fieldRight, sortRight, usesBefore, rowRight, RowsRight, bad-row}
 use Rattle.schema.specs.declared.Shape.{Shape}
 use Rattle.schema.specs.declared.Field.the-variants.{APattern, PatternOrNone}
 
 module _ (strings : ℕ) (s : List ℕ) (right : RowsRight strings s) (r : ℕ) (h : r < rowsOf s) where
-  pub row-right : rowRight strings s r (usesBelow s r (rowsOf s)) ≡ true
-  row-right = go (rowRight strings s r (usesBelow s r (rowsOf s))) refl
+  pub row-right : rowRight strings s r (usesBefore s r (rowsOf s)) ≡ true
+  row-right = go (rowRight strings s r (usesBefore s r (rowsOf s))) refl
     where
-      go : (b : Bool) → rowRight strings s r (usesBelow s r (rowsOf s)) ≡ b → b ≡ true
+      go : (b : Bool) → rowRight strings s r (usesBefore s r (rowsOf s)) ≡ b → b ≡ true
       go true e = refl
       go false e = absurd (right r (bad-row (h, e)))
 
   fields : (fieldRight strings s r (shapeOf (kindOf s r) .a) (aOf s r) && fieldRight strings s r (shapeOf (kindOf s r) .b) (bOf s r)) ≡ true
-  fields = and-both _ (sortRight (sortOf s r) (usesBelow s r (rowsOf s)) (eqb (r + 1) (rowsOf s))) row-right .0
+  fields = and-both _ (sortRight (sortOf s r) (usesBefore s r (rowsOf s)) (eqb (r + 1) (rowsOf s))) row-right .0
 
   pub both-fields : (fieldRight strings s r (shapeOf (kindOf s r) .a) (aOf s r) ≡ true) × (fieldRight strings s r (shapeOf (kindOf s r) .b) (bOf s r) ≡ true)
   both-fields = and-both (fieldRight strings s r (shapeOf (kindOf s r) .a) (aOf s r)) (fieldRight strings s r (shapeOf (kindOf s r) .b) (bOf s r)) fields
@@ -40,10 +40,10 @@ module _ (strings : ℕ) (s : List ℕ) (right : RowsRight strings s) (r : ℕ) 
       let n : names s r APattern (bOf s r) ≡ true = rw (e, f) at (both-fields .1) in
       (rw (e, f) n, and-both (ltb (bOf s r) r) (isPattern (sortOf s (bOf s r))) n .1)
 
-  pub pattern-or-none : (k : ℕ) → kindOf s r ≡ k → shapeOf k .b ≡ PatternOrNone → (bOf s r ≡ kind.none) ⊎ ((namesB s r ≡ true) × (isPattern (sortOf s (bOf s r)) ≡ true))
-  pattern-or-none k e f = go (or-either (eqb (bOf s r) kind.none) (names s r PatternOrNone (bOf s r)) (rw (e, f) at (both-fields .1)))
+  pub pattern-or-none : (k : ℕ) → kindOf s r ≡ k → shapeOf k .b ≡ PatternOrNone → (bOf s r ≡ kind.noRow) ⊎ ((namesB s r ≡ true) × (isPattern (sortOf s (bOf s r)) ≡ true))
+  pattern-or-none k e f = go (or-either (eqb (bOf s r) kind.noRow) (names s r PatternOrNone (bOf s r)) (rw (e, f) at (both-fields .1)))
     where
-      go : (eqb (bOf s r) kind.none ≡ true) ⊎ (names s r PatternOrNone (bOf s r) ≡ true) → (bOf s r ≡ kind.none) ⊎ ((namesB s r ≡ true) × (isPattern (sortOf s (bOf s r)) ≡ true))
+      go : (eqb (bOf s r) kind.noRow ≡ true) ⊎ (names s r PatternOrNone (bOf s r) ≡ true) → (bOf s r ≡ kind.noRow) ⊎ ((namesB s r ≡ true) × (isPattern (sortOf s (bOf s r)) ≡ true))
       go (inl x) = inl (eqb-true _ _ x)
       go (inr n) = inr (rw (e, f) n, and-both (ltb (bOf s r) r) (isPattern (sortOf s (bOf s r))) n .1)
 

@@ -9,7 +9,7 @@ use native.Mathlib.Nat.{lt-of-not-le}
 use native.Mathlib.Omega.{arith}
 use lib.ListN.{length, set, length-set, List·getD-eq-default}
 use lib.Seq.{getD-set-same, getD-set-other, set-out}
-use Rattle.schema.specs.Kinds.{none}
+use Rattle.schema.specs.Kinds.{noRow}
 use Rattle.schema.specs.Rows.{childA, childB}
 use Rattle.schema.specs.Marks.{Marked, markIf, childrenMarked, Adds}
 use Rattle.schema.proofs.Children.{child-a-row, child-b-row}
@@ -18,7 +18,7 @@ pub marked-row : (t : List ℕ) (r : ℕ) → Marked t r → r < length t
 marked-row t r m = lt-of-not-le (λ h. omega (arith, List·getD-eq-default t 0 h))
 
 pub adds-none : {P : ℕ → Type 0} (t : List ℕ) → ((r : ℕ) → ¬ P r) → Adds P t t
-adds-none t none = record { kept = λ r m. m; added = λ r p. absurd (none r p); only = λ r m. inl m; rest = λ r n. refl }
+adds-none t noRow = record { kept = λ r m. m; added = λ r p. absurd (noRow r p); only = λ r m. inl m; rest = λ r n. refl }
 
 -- after a store the marked rows are the old ones and that row, if it is in the table
 pub adds-store : (t : List ℕ) (i : ℕ) → Adds (λ r. (i ≡ r) × (r < length t)) t (set t i 1)
@@ -76,12 +76,12 @@ pub data PickedChild (s : List ℕ) (p : ℕ) (a b : Bool) (r : ℕ) : Type 0 wh
   picked-b : Picked p (childB s p) b r → PickedChild s p a b r
 
 -- a child, a smaller row or none, is marked where it is wanted, in a table that has a word for each smaller row and none for that number
-adds-picked : (t : List ℕ) (p child : ℕ) (wanted : Bool) → p ≤ length t → length t ≤ none → (child < p) ⊎ (child ≡ none) → Adds (Picked p child wanted) t (markIf wanted child t)
+adds-picked : (t : List ℕ) (p child : ℕ) (wanted : Bool) → p ≤ length t → length t ≤ noRow → (child < p) ⊎ (child ≡ noRow) → Adds (Picked p child wanted) t (markIf wanted child t)
 adds-picked t p child false room low row = adds-none t (λ r k. false≢true (k .on))
 adds-picked t p child true room low row =
     adds-same (λ r k. record { on = refl; is = k .0; less = smaller r k row }) (λ r k. (k .is, let l = k .less in omega arith)) (adds-store t child)
   where
-    smaller : (r : ℕ) → (child ≡ r) × (r < length t) → (child < p) ⊎ (child ≡ none) → r < p
+    smaller : (r : ℕ) → (child ≡ r) × (r < length t) → (child < p) ⊎ (child ≡ noRow) → r < p
     smaller r k (inl h) = let e = k .0 in omega arith
     smaller r k (inr e) = let f = k .0 in let l = k .1 in absurd (omega arith)
 
@@ -92,7 +92,7 @@ mark-length false r t = refl
 pub children-length : (s : List ℕ) (p : ℕ) (a b : Bool) (t : List ℕ) → length (childrenMarked s p a b t) ≡ length t
 children-length s p a b t = mark-length b (childB s p) (markIf a (childA s p) t) ∙ mark-length a (childA s p) t
 
-pub adds-children : (s t : List ℕ) (p : ℕ) (a b : Bool) → p ≤ length t → length t ≤ none → Adds (PickedChild s p a b) t (childrenMarked s p a b t)
+pub adds-children : (s t : List ℕ) (p : ℕ) (a b : Bool) → p ≤ length t → length t ≤ noRow → Adds (PickedChild s p a b) t (childrenMarked s p a b t)
 adds-children s t p a b room low =
     let l = mark-length a (childA s p) t in
     adds-both (λ r k. picked-a k) (λ r k. picked-b k) split

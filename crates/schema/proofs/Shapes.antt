@@ -22,9 +22,9 @@ pub past-oneOrMore : (k : ℕ) → kind.attribute ≤ k → k ≢ kind.attribute
 past-oneOrMore k l p q r = omega arith
 
 -- choice, group and interleave
-pub shape-pair : (k : ℕ) → kind.choice ≤ k → k ≤ kind.interleave → shapeOf k ≡ shape Pattern APattern APattern
+pub shape-binary : (k : ℕ) → kind.choice ≤ k → k ≤ kind.interleave → shapeOf k ≡ shape Pattern APattern APattern
 unfolding shapeOf
-shape-pair k l h =
+shape-binary k l h =
     rw (
       outside kind.empty kind.text k (inr (omega arith)),
       ne-eqb k kind.«data» (λ e. omega arith),

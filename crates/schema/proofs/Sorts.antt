@@ -8,7 +8,7 @@ use borrow.Author.Tests.{eq-eqb, eqb-true}
 use Rattle.tables.proofs.Booleans.{and-both, either}
 use Rattle.schema.specs.Kinds as kind
 use Rattle.schema.specs.Rows.{rowsOf, kindOf, aOf, bOf, shapeOf, sortOf, isElement, namesA}
-use Rattle.schema.specs.RowRule.{fieldRight, sortRight, usesBelow, RowsRight}
+use Rattle.schema.specs.RowRule.{fieldRight, sortRight, usesBefore, RowsRight}
 use Rattle.schema.specs.declared.Sort.{Sort}
 use Rattle.schema.specs.declared.Sort.the-variants.{Pattern, NameClass, Element, Start, Bad}
 use Rattle.schema.specs.declared.Shape.{Shape}
@@ -65,8 +65,8 @@ module _ (strings : ℕ) (s : List ℕ) (right : RowsRight strings s) (r : ℕ) 
   pub last-kind : r + 1 ≡ rowsOf s → kindOf s r ≡ kind.start
   last-kind e =
       let fields = fieldRight strings s r (shapeOf (kindOf s r) .a) (aOf s r) && fieldRight strings s r (shapeOf (kindOf s r) .b) (bOf s r) in
-      let t = and-both fields (sortRight (sortOf s r) (usesBelow s r (rowsOf s)) (eqb (r + 1) (rowsOf s))) (row-right strings s right r h) .1 in
-      is-start (usesBelow s r (rowsOf s)) (kind-of (kindOf s r)) (rw (eq-eqb (r + 1) (rowsOf s) e) at t)
+      let t = and-both fields (sortRight (sortOf s r) (usesBefore s r (rowsOf s)) (eqb (r + 1) (rowsOf s))) (row-right strings s right r h) .1 in
+      is-start (usesBefore s r (rowsOf s)) (kind-of (kindOf s r)) (rw (eq-eqb (r + 1) (rowsOf s) e) at t)
 
   pub class-a : (k : ℕ) → kindOf s r ≡ k → shapeOf k .a ≡ AClass → namesA s r ≡ true
   class-a k e f = rw (e, f) (rw (e, f) at (both-fields strings s right r h .0))

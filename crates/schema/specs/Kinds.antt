@@ -2,8 +2,8 @@
 use Prim.Native.Nat.{ℕ}
 
 -- document 01's `-`: no row
-abbrev pub none : ℕ
-none = 4294967295
+abbrev pub noRow : ℕ
+noRow = 4294967295
 
 -- patterns
 abbrev pub empty : ℕ

@@ -6,12 +6,12 @@ use mathlib.Core.Bool.{Bool, false, not, cond, _&&_, _||_}
 use mathlib.Core.List.{List}
 use lib.ListN.{length}
 use lib.Dec.{ltb, eqb}
-use Rattle.schema.specs.Kinds.{none}
+use Rattle.schema.specs.Kinds.{noRow}
 use Rattle.schema.specs.Rows.{rowsOf, kindOf, aOf, bOf, shapeOf, sortOf, isElement, names, childA, childB}
 use Rattle.schema.specs.declared.Sort.{Sort}
 use Rattle.schema.specs.declared.Sort.the-variants.{Pattern, NameClass, Element, Start, Bad}
 use Rattle.schema.specs.declared.Field.{Field}
-use Rattle.schema.specs.declared.Field.the-variants.{Unused, APattern, PatternOrNone, AClass, ClassOrNone, Definition, Datatype, Text, Local}
+use Rattle.schema.specs.declared.Field.the-variants.{Unused, APattern, PatternOrNone, AClass, ClassOrNone, Definition, Datatype, StringNumber, Local}
 
 abbrev pub maxRows : ℕ
 maxRows = 512
@@ -20,21 +20,21 @@ maxRows = 512
 abbrev pub fieldRight : ℕ → List ℕ → ℕ → Field → ℕ → Bool
 fieldRight strings s p Unused x = eqb x 0
 fieldRight strings s p APattern x = names s p APattern x
-fieldRight strings s p PatternOrNone x = eqb x none || names s p PatternOrNone x
+fieldRight strings s p PatternOrNone x = eqb x noRow || names s p PatternOrNone x
 fieldRight strings s p AClass x = names s p AClass x
-fieldRight strings s p ClassOrNone x = eqb x none || names s p ClassOrNone x
+fieldRight strings s p ClassOrNone x = eqb x noRow || names s p ClassOrNone x
 fieldRight strings s p Definition x = isElement (sortOf s x)
 fieldRight strings s p Datatype x = ltb x 2
-fieldRight strings s p Text x = ltb x strings
+fieldRight strings s p StringNumber x = ltb x strings
 fieldRight strings s p Local x = ltb 0 x && ltb x strings
 
 -- how often row r is a child of a row below n; both fields of a row count
 abbrev pub isRow : ℕ → ℕ → ℕ
 isRow r x = cond (eqb x r) 1 0
 
-unfoldable pub usesBelow : List ℕ → ℕ → ℕ → ℕ
-usesBelow s r zero = 0
-usesBelow s r (suc p) = usesBelow s r p + isRow r (childA s p) + isRow r (childB s p)
+unfoldable pub usesBefore : List ℕ → ℕ → ℕ → ℕ
+usesBefore s r zero = 0
+usesBefore s r (suc p) = usesBefore s r p + isRow r (childA s p) + isRow r (childB s p)
 
 -- whether a row of a sort may have so many parents, and be the last row: a pattern or name class has exactly one parent, start is the last row and no other is
 abbrev pub sortRight : Sort → ℕ → Bool → Bool
@@ -52,7 +52,7 @@ rowRight strings s r uses =
     && sortRight (sortOf s r) uses (eqb (r + 1) (rowsOf s))
 
 abbrev pub WrongRow : ℕ → List ℕ → ℕ → Type 0
-WrongRow strings s r = (r < rowsOf s) × (rowRight strings s r (usesBelow s r (rowsOf s)) ≡ false)
+WrongRow strings s r = (r < rowsOf s) × (rowRight strings s r (usesBefore s r (rowsOf s)) ≡ false)
 
 -- the number of words and rows
 pub data SizeFault (s : List ℕ) (r : ℕ) : Type 0 where

@@ -8,7 +8,7 @@ use Rattle.schema.specs.Kinds as kind
 use Rattle.schema.specs.declared.Sort.{Sort}
 use Rattle.schema.specs.declared.Sort.the-variants.{Pattern, NameClass, Element, Start, Bad}
 use Rattle.schema.specs.declared.Field.{Field}
-use Rattle.schema.specs.declared.Field.the-variants.{Unused, APattern, PatternOrNone, AClass, ClassOrNone, Definition, Datatype, Text, Local}
+use Rattle.schema.specs.declared.Field.the-variants.{Unused, APattern, PatternOrNone, AClass, ClassOrNone, Definition, Datatype, StringNumber, Local}
 use Rattle.schema.specs.declared.Shape.{Shape}
 
 abbrev pub rowsOf : List ℕ → ℕ
@@ -32,14 +32,14 @@ unfoldable pub shapeOf : ℕ → Shape
 shapeOf k =
     cond (leb kind.empty k && leb k kind.text) (shape Pattern Unused Unused)
     (cond (eqb k kind.«data») (shape Pattern Datatype PatternOrNone)
-    (cond (eqb k kind.value) (shape Pattern Datatype Text)
+    (cond (eqb k kind.value) (shape Pattern Datatype StringNumber)
     (cond (eqb k kind.attribute) (shape Pattern AClass APattern)
     (cond (eqb k kind.ref) (shape Pattern Definition Unused)
     (cond (eqb k kind.oneOrMore) (shape Pattern APattern Unused)
     (cond (leb kind.choice k && leb k kind.interleave) (shape Pattern APattern APattern)
     (cond (eqb k kind.anyName) (shape NameClass ClassOrNone Unused)
-    (cond (eqb k kind.nsName) (shape NameClass Text ClassOrNone)
-    (cond (eqb k kind.name) (shape NameClass Text Local)
+    (cond (eqb k kind.nsName) (shape NameClass StringNumber ClassOrNone)
+    (cond (eqb k kind.name) (shape NameClass StringNumber Local)
     (cond (eqb k kind.nameChoice) (shape NameClass AClass AClass)
     (cond (eqb k kind.element) (shape Element AClass APattern)
     (cond (eqb k kind.start) (shape Start APattern Unused)
@@ -78,7 +78,7 @@ names s p AClass x = ltb x p && isClass (sortOf s x)
 names s p ClassOrNone x = ltb x p && isClass (sortOf s x)
 names s p Definition x = false
 names s p Datatype x = false
-names s p Text x = false
+names s p StringNumber x = false
 names s p Local x = false
 
 abbrev pub namesA : List ℕ → ℕ → Bool
@@ -89,7 +89,7 @@ namesB s p = names s p (shapeOf (kindOf s p) .b) (bOf s p)
 
 -- the child of a row through field a, and through field b; none where the field is bad or holds no child
 abbrev pub childA : List ℕ → ℕ → ℕ
-childA s p = cond (namesA s p) (aOf s p) kind.none
+childA s p = cond (namesA s p) (aOf s p) kind.noRow
 
 abbrev pub childB : List ℕ → ℕ → ℕ
-childB s p = cond (namesB s p) (bOf s p) kind.none
+childB s p = cond (namesB s p) (bOf s p) kind.noRow

@@ -31,7 +31,7 @@ patternBy k a b =
     cond (eqb k kind.empty) empty
     (cond (eqb k kind.notAllowed) notAllowed
     (cond (eqb k kind.text) text
-    (cond (eqb k kind.«data») (cond (eqb b kind.none) (dataAll a) (dataExcept a b))
+    (cond (eqb k kind.«data») (cond (eqb b kind.noRow) (dataAll a) (dataExcept a b))
     (cond (eqb k kind.value) (value a b)
     (cond (eqb k kind.attribute) (attribute a b)
     (cond (eqb k kind.ref) (ref a)
@@ -42,8 +42,8 @@ patternBy k a b =
 
 unfoldable pub classBy : ℕ → ℕ → ℕ → NameClass
 classBy k a b =
-    cond (eqb k kind.anyName) (cond (eqb a kind.none) anyName (anyNameExcept a))
-    (cond (eqb k kind.nsName) (cond (eqb b kind.none) (nsName a) (nsNameExcept a b))
+    cond (eqb k kind.anyName) (cond (eqb a kind.noRow) anyName (anyNameExcept a))
+    (cond (eqb k kind.nsName) (cond (eqb b kind.noRow) (nsName a) (nsNameExcept a b))
     (cond (eqb k kind.name) (name a b)
     (cond (eqb k kind.nameChoice) (nameChoice a b) noClass)))
 

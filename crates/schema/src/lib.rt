@@ -9,7 +9,7 @@ ghost use Rattle.schema.specs.Marks.{markIf, childrenMarked};
 pub const MAX_ROWS: usize = 512;
 
 // Document 01's `-`: no row.
-pub const NONE: u32 = 4294967295;
+pub const NO_ROW: u32 = 4294967295;
 
 // The kinds of schema rows, by their numbers in document 01.
 pub const EMPTY: u32 = 1;
@@ -64,7 +64,7 @@ pub enum Field {
     ClassOrNone,
     Definition,
     Datatype,
-    Text,
+    StringNumber,
     Local,
 }
 
@@ -123,14 +123,14 @@ pub fn shape_of(kind: u32) -> Shape
     match kind {
         EMPTY..=TEXT => made(Sort::Pattern, Field::Unused, Field::Unused),
         DATA => made(Sort::Pattern, Field::Datatype, Field::PatternOrNone),
-        VALUE => made(Sort::Pattern, Field::Datatype, Field::Text),
+        VALUE => made(Sort::Pattern, Field::Datatype, Field::StringNumber),
         ATTRIBUTE => made(Sort::Pattern, Field::AClass, Field::APattern),
         REF => made(Sort::Pattern, Field::Definition, Field::Unused),
         ONE_OR_MORE => made(Sort::Pattern, Field::APattern, Field::Unused),
         CHOICE..=INTERLEAVE => made(Sort::Pattern, Field::APattern, Field::APattern),
         ANY_NAME => made(Sort::NameClass, Field::ClassOrNone, Field::Unused),
-        NS_NAME => made(Sort::NameClass, Field::Text, Field::ClassOrNone),
-        NAME => made(Sort::NameClass, Field::Text, Field::Local),
+        NS_NAME => made(Sort::NameClass, Field::StringNumber, Field::ClassOrNone),
+        NAME => made(Sort::NameClass, Field::StringNumber, Field::Local),
         NAME_CHOICE => made(Sort::NameClass, Field::AClass, Field::AClass),
         ELEMENT => made(Sort::Element, Field::AClass, Field::APattern),
         START => made(Sort::Start, Field::APattern, Field::Unused),
@@ -222,12 +222,12 @@ fn names_child(schema: &[u32], p: u32, field: Field, x: u32) -> bool
         Field::ClassOrNone => class_below(schema, p, x),
         Field::Definition => false,
         Field::Datatype => false,
-        Field::Text => false,
+        Field::StringNumber => false,
         Field::Local => false,
     }
 }
 
-// The child through field a, a smaller row, or NONE.
+// The child through field a, a smaller row, or NO_ROW.
 pub fn child_a(schema: &[u32], p: u32) -> u32
     ensures { λ r. ⌜ r ≡ childA (now (schema .entry)) p ⌝ }
 {
@@ -237,11 +237,11 @@ pub fn child_a(schema: &[u32], p: u32) -> u32
     if names_child(schema, p, field, a) {
         a
     } else {
-        NONE
+        NO_ROW
     }
 }
 
-// The child through field b, a smaller row, or NONE.
+// The child through field b, a smaller row, or NO_ROW.
 pub fn child_b(schema: &[u32], p: u32) -> u32
     ensures { λ r. ⌜ r ≡ childB (now (schema .entry)) p ⌝ }
 {
@@ -251,7 +251,7 @@ pub fn child_b(schema: &[u32], p: u32) -> u32
     if names_child(schema, p, field, b) {
         b
     } else {
-        NONE
+        NO_ROW
     }
 }
 
@@ -282,7 +282,7 @@ pub fn field_right(strings: usize, schema: &[u32], p: u32, field: Field, x: u32)
         Field::Unused => x == 0,
         Field::APattern => pattern_below(schema, p, x),
         Field::PatternOrNone => {
-            if x == NONE {
+            if x == NO_ROW {
                 true
             } else {
                 pattern_below(schema, p, x)
@@ -290,7 +290,7 @@ pub fn field_right(strings: usize, schema: &[u32], p: u32, field: Field, x: u32)
         }
         Field::AClass => class_below(schema, p, x),
         Field::ClassOrNone => {
-            if x == NONE {
+            if x == NO_ROW {
                 true
             } else {
                 class_below(schema, p, x)
@@ -298,7 +298,7 @@ pub fn field_right(strings: usize, schema: &[u32], p: u32, field: Field, x: u32)
         }
         Field::Definition => is_element(sort_at(schema, x)),
         Field::Datatype => x < 2,
-        Field::Text => (x as usize) < strings,
+        Field::StringNumber => (x as usize) < strings,
         Field::Local => { if 0 < x { (x as usize) < strings } else { false } }
     }
 }

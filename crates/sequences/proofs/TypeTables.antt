@@ -15,8 +15,8 @@ use Rattle.schema.specs.Rows.{rowsOf, kindOf}
 use Rattle.schema.specs.RowRule.{maxRows, SizeRight}
 use Rattle.schema.proofs.Children.{kind-past}
 use Rattle.schema.proofs.RowLaws.{whole-rows, in-table}
-use Rattle.places.specs.Paths.{isPair}
-use Rattle.sequences.specs.Content.{HasType, value-type, data-type-1, data-type-2, text-type, ref-type, empty-type, attribute-type, pair-type, oneOrMore-type, choice-type, SequenceFault, pair-not-groupable, repeat-not-groupable}
+use Rattle.places.specs.Paths.{sharingKind}
+use Rattle.sequences.specs.Content.{HasType, value-type, data-type-1, data-type-2, text-type, ref-type, empty-type, attribute-type, sharing-type, oneOrMore-type, choice-type, SequenceFault, sharing-not-groupable, repeat-not-groupable}
 use Rattle.sequences.specs.TypeTable.{noType, typeBy, TypeIs, Types}
 
 pub types-none : (s : List ℕ) → Types s (zeros maxRows) 0
@@ -40,7 +40,7 @@ untyped z (text-type e) = omega (arith, z, e)
 untyped z (ref-type e) = omega (arith, z, e)
 untyped z (empty-type e) = omega (arith, z, e)
 untyped z (attribute-type e t) = omega (arith, z, e)
-untyped z (pair-type e t u g) = false≢true (sym (ap isPair z) ∙ e)
+untyped z (sharing-type e t u g) = false≢true (sym (ap sharingKind z) ∙ e)
 untyped z (oneOrMore-type e t g) = omega (arith, z, e)
 untyped z (choice-type e t u) = omega (arith, z, e)
 
@@ -72,5 +72,5 @@ type-other k b c d o =
 
 -- a fault is at a row of the table
 pub sequence-row : {s : List ℕ} {r : ℕ} → SizeRight s → SequenceFault s r → r < rowsOf s
-sequence-row {s} {r} w (pair-not-groupable c d e t u g) = in-table w (λ z. false≢true (sym (ap isPair z) ∙ e))
+sequence-row {s} {r} w (sharing-not-groupable c d e t u g) = in-table w (λ z. false≢true (sym (ap sharingKind z) ∙ e))
 sequence-row {s} {r} w (repeat-not-groupable c e t g) = in-table w (λ z. omega (arith, e, z))

@@ -11,8 +11,8 @@ use Rattle.tables.specs.Answers.{Decides}
 use Rattle.tables.proofs.Booleans.{and-both, or-either, either}
 use Rattle.schema.specs.Kinds as kind
 use Rattle.schema.specs.Rows.{kindOf, bOf, childA, childB}
-use Rattle.places.specs.Paths.{isPair}
-use Rattle.sequences.specs.Content.{groupable, HasType, value-type, data-type-1, data-type-2, text-type, ref-type, empty-type, attribute-type, pair-type, oneOrMore-type, choice-type, SequenceFault, pair-not-groupable, repeat-not-groupable}
+use Rattle.places.specs.Paths.{sharingKind}
+use Rattle.sequences.specs.Content.{groupable, HasType, value-type, data-type-1, data-type-2, text-type, ref-type, empty-type, attribute-type, sharing-type, oneOrMore-type, choice-type, SequenceFault, sharing-not-groupable, repeat-not-groupable}
 use Rattle.sequences.specs.TypeTable.{noType, typed, fits, clashes, typeBy, clashBy, TypeIs}
 
 three : (x y z : Bool) → (x && y && z) ≡ true → (x ≡ true) × (y ≡ true) × (z ≡ true)
@@ -27,21 +27,21 @@ type-low (text-type e) = omega arith
 type-low (ref-type e) = omega arith
 type-low (empty-type e) = omega arith
 type-low (attribute-type e t) = omega arith
-type-low (pair-type e t u g) = omega (arith, type-low t, type-low u)
+type-low (sharing-type e t u g) = omega (arith, type-low t, type-low u)
 type-low (oneOrMore-type e t g) = type-low t
 type-low (choice-type e t u) = omega (arith, type-low t, type-low u)
 
 -- the type and the clash of a group or interleave
-pub pair-kind : (k : ℕ) → isPair k ≡ true → (k ≡ kind.group) ⊎ (k ≡ kind.interleave)
-pair-kind k e = ⊎-elim (λ x. inl (eqb-true _ _ x)) (λ x. inr (eqb-true _ _ x)) (or-either (eqb k kind.group) (eqb k kind.interleave) e)
+pub sharing-kind : (k : ℕ) → sharingKind k ≡ true → (k ≡ kind.group) ⊎ (k ≡ kind.interleave)
+sharing-kind k e = ⊎-elim (λ x. inl (eqb-true _ _ x)) (λ x. inr (eqb-true _ _ x)) (or-either (eqb k kind.group) (eqb k kind.interleave) e)
 
-pair-by : (k b c d : ℕ) → isPair k ≡ true → typeBy k b c d ≡ cond (fits c d) (max c d) noType
+sharing-by : (k b c d : ℕ) → sharingKind k ≡ true → typeBy k b c d ≡ cond (fits c d) (max c d) noType
 unfolding typeBy
-pair-by k b c d e = ⊎-elim (λ f. rw f) (λ f. rw f) (pair-kind k e)
+sharing-by k b c d e = ⊎-elim (λ f. rw f) (λ f. rw f) (sharing-kind k e)
 
-pair-clash : (k c d : ℕ) → isPair k ≡ true → clashBy k c d ≡ clashes c d
+sharing-clash : (k c d : ℕ) → sharingKind k ≡ true → clashBy k c d ≡ clashes c d
 unfolding clashBy
-pair-clash k c d e = ⊎-elim (λ f. rw f) (λ f. rw f) (pair-kind k e)
+sharing-clash k c d e = ⊎-elim (λ f. rw f) (λ f. rw f) (sharing-kind k e)
 
 is-typed : {s : List ℕ} {x t u : ℕ} → TypeIs s x t → HasType s x u → typed t ≡ true
 is-typed i h = lt-ltb _ _ (subst (λ n. n < noType) (i .only _ h) (type-low h))
@@ -60,33 +60,33 @@ module _ (s : List ℕ) (r c d : ℕ) (first : TypeIs s (childA s r) c) (second 
       either Given (eqb k kind.empty) (λ e t. empty-type (eqb-true _ _ e)) (λ e₁.
       either Given (eqb k kind.text || eqb k kind.ref) (λ e t. ⊎-elim (λ x. text-type (eqb-true _ _ x)) (λ x. ref-type (eqb-true _ _ x)) (or-either (eqb k kind.text) (eqb k kind.ref) e)) (λ e₂.
       either Given (eqb k kind.value) (λ e t. value-type (eqb-true _ _ e)) (λ e₃.
-      either Given (eqb k kind.«data») (λ e. either Given (eqb (bOf s r) kind.none || typed d)
-      (λ f t. ⊎-elim (λ x. data-type-1 (eqb-true _ _ e) (eqb-true _ _ x)) (λ x. data-type-2 (eqb-true _ _ e) (second .has x)) (or-either (eqb (bOf s r) kind.none) (typed d) f)) (λ f. no-type)) (λ e₄.
+      either Given (eqb k kind.«data») (λ e. either Given (eqb (bOf s r) kind.noRow || typed d)
+      (λ f t. ⊎-elim (λ x. data-type-1 (eqb-true _ _ e) (eqb-true _ _ x)) (λ x. data-type-2 (eqb-true _ _ e) (second .has x)) (or-either (eqb (bOf s r) kind.noRow) (typed d) f)) (λ f. no-type)) (λ e₄.
       either Given (eqb k kind.attribute) (λ e. either Given (typed d) (λ f t. attribute-type (eqb-true _ _ e) (second .has f)) (λ f. no-type)) (λ e₅.
       either Given (eqb k kind.oneOrMore) (λ e. either Given (fits c c)
       (λ f t. let g = three (typed c) (typed c) (groupable c c) f in oneOrMore-type (eqb-true _ _ e) (first .has (g .0)) (g .2)) (λ f. no-type)) (λ e₆.
       either Given (eqb k kind.choice) (λ e. either Given (typed c && typed d)
       (λ f t. let g = and-both (typed c) (typed d) f in choice-type (eqb-true _ _ e) (first .has (g .0)) (second .has (g .1))) (λ f. no-type)) (λ e₇.
-      either Given (isPair k) (λ e. either Given (fits c d)
-      (λ f t. let g = three (typed c) (typed d) (groupable c d) f in pair-type e (first .has (g .0)) (second .has (g .1)) (g .2)) (λ f. no-type)) (λ e₈. no-type))))))))
+      either Given (sharingKind k) (λ e. either Given (fits c d)
+      (λ f t. let g = three (typed c) (typed d) (groupable c d) f in sharing-type e (first .has (g .0)) (second .has (g .1)) (g .2)) (λ f. no-type)) (λ e₈. no-type))))))))
 
   -- the types that the children have are those given, so they go together as these do
   same-fit : (x y : ℕ) → HasType s (childA s r) x → HasType s (childB s r) y → groupable x y ≡ true → fits c d ≡ true
   same-fit x y t u g = rw (is-typed first t, is-typed second u) (rw (first .only x t, second .only y u) at g)
 
-  pair-only : (x y : ℕ) → isPair (kindOf s r) ≡ true → HasType s (childA s r) x → HasType s (childB s r) y → groupable x y ≡ true → max x y ≡ typeBy (kindOf s r) (bOf s r) c d
-  pair-only x y e t u g = ap₂ max (first .only x t) (second .only y u) ∙ sym (pair-by (kindOf s r) (bOf s r) c d e ∙ rw (same-fit x y t u g))
+  sharing-only : (x y : ℕ) → sharingKind (kindOf s r) ≡ true → HasType s (childA s r) x → HasType s (childB s r) y → groupable x y ≡ true → max x y ≡ typeBy (kindOf s r) (bOf s r) c d
+  sharing-only x y e t u g = ap₂ max (first .only x t) (second .only y u) ∙ sym (sharing-by (kindOf s r) (bOf s r) c d e ∙ rw (same-fit x y t u g))
 
   only : (t : ℕ) → HasType s r t → t ≡ typeBy (kindOf s r) (bOf s r) c d
   unfolding typeBy
   only t (value-type e) = rw e
   only t (data-type-1 e f) = rw (e, eq-eqb _ _ f)
-  only t (data-type-2 e h) = rw (e, is-typed second h, or-true (eqb (bOf s r) kind.none))
+  only t (data-type-2 e h) = rw (e, is-typed second h, or-true (eqb (bOf s r) kind.noRow))
   only t (text-type e) = rw e
   only t (ref-type e) = rw e
   only t (empty-type e) = rw e
   only t (attribute-type e h) = rw (e, is-typed second h)
-  only t (pair-type {c = x} {d = y} e h i g) = pair-only x y e h i g
+  only t (sharing-type {c = x} {d = y} e h i g) = sharing-only x y e h i g
   only t (oneOrMore-type e h g) = rw (e, is-typed first h, rw (first .only t h) at g) (first .only t h)
   only t (choice-type {c = x} {d = y} e h i) = rw (e, is-typed first h, is-typed second i) (ap₂ max (first .only x h) (second .only y i))
 
@@ -96,16 +96,16 @@ module _ (s : List ℕ) (r c d : ℕ) (first : TypeIs s (childA s r) c) (second 
   -- the answer to whether the row is at fault
   clash-fault : clashBy (kindOf s r) c d ≡ true → SequenceFault s r
   unfolding clashBy
-  clash-fault = go (eqb (kindOf s r) kind.oneOrMore) refl (isPair (kindOf s r)) refl
+  clash-fault = go (eqb (kindOf s r) kind.oneOrMore) refl (sharingKind (kindOf s r)) refl
     where
-      go : (m : Bool) → eqb (kindOf s r) kind.oneOrMore ≡ m → (p : Bool) → isPair (kindOf s r) ≡ p → cond m (clashes c c) (cond p (clashes c d) false) ≡ true → SequenceFault s r
+      go : (m : Bool) → eqb (kindOf s r) kind.oneOrMore ≡ m → (p : Bool) → sharingKind (kindOf s r) ≡ p → cond m (clashes c c) (cond p (clashes c d) false) ≡ true → SequenceFault s r
       go true e p f h = let g = three (typed c) (typed c) (not (groupable c c)) h in repeat-not-groupable c (eqb-true _ _ e) (first .has (g .0)) (not-true _ (g .2))
-      go false e true f h = let g = three (typed c) (typed d) (not (groupable c d)) h in pair-not-groupable c d f (first .has (g .0)) (second .has (g .1)) (not-true _ (g .2))
+      go false e true f h = let g = three (typed c) (typed d) (not (groupable c d)) h in sharing-not-groupable c d f (first .has (g .0)) (second .has (g .1)) (not-true _ (g .2))
       go false e false f h = absurd (false≢true h)
 
   fault-clash : SequenceFault s r → clashBy (kindOf s r) c d ≡ true
   unfolding clashBy
-  fault-clash (pair-not-groupable x y e t u g) = pair-clash (kindOf s r) c d e ∙ rw (is-typed first t, is-typed second u, rw (first .only x t, second .only y u) at g)
+  fault-clash (sharing-not-groupable x y e t u g) = sharing-clash (kindOf s r) c d e ∙ rw (is-typed first t, is-typed second u, rw (first .only x t, second .only y u) at g)
   fault-clash (repeat-not-groupable x e t g) = rw (e, is-typed first t, rw (first .only x t) at g)
 
   pub clash-decides : Decides (SequenceFault s r) (clashBy (kindOf s r) c d)

@@ -6,7 +6,7 @@ use mathlib.Core.List.{List}
 use lib.Dec.{eqb}
 use Rattle.schema.specs.Kinds as kind
 use Rattle.schema.specs.Rows.{kindOf, bOf, childA, childB}
-use Rattle.places.specs.Paths.{isPair}
+use Rattle.places.specs.Paths.{sharingKind}
 
 -- the content types in their order
 abbrev pub emptyType : ℕ
@@ -25,13 +25,13 @@ groupable c d = eqb c emptyType || eqb d emptyType || eqb c complexType && eqb d
 -- row r has a content type, one constructor a rule of 10.3
 pub data HasType (s : List ℕ) : ℕ → ℕ → Type 0 where
   value-type : {r : ℕ} → kindOf s r ≡ kind.value → HasType s r simpleType
-  data-type-1 : {r : ℕ} → kindOf s r ≡ kind.«data» → bOf s r ≡ kind.none → HasType s r simpleType
+  data-type-1 : {r : ℕ} → kindOf s r ≡ kind.«data» → bOf s r ≡ kind.noRow → HasType s r simpleType
   data-type-2 : {r c : ℕ} → kindOf s r ≡ kind.«data» → HasType s (childB s r) c → HasType s r simpleType
   text-type : {r : ℕ} → kindOf s r ≡ kind.text → HasType s r complexType
   ref-type : {r : ℕ} → kindOf s r ≡ kind.ref → HasType s r complexType
   empty-type : {r : ℕ} → kindOf s r ≡ kind.empty → HasType s r emptyType
   attribute-type : {r c : ℕ} → kindOf s r ≡ kind.attribute → HasType s (childB s r) c → HasType s r emptyType
-  pair-type : {r c d : ℕ} → isPair (kindOf s r) ≡ true → HasType s (childA s r) c → HasType s (childB s r) d → groupable c d ≡ true → HasType s r (max c d)
+  sharing-type : {r c d : ℕ} → sharingKind (kindOf s r) ≡ true → HasType s (childA s r) c → HasType s (childB s r) d → groupable c d ≡ true → HasType s r (max c d)
   oneOrMore-type : {r c : ℕ} → kindOf s r ≡ kind.oneOrMore → HasType s (childA s r) c → groupable c c ≡ true → HasType s r c
   choice-type : {r c d : ℕ} → kindOf s r ≡ kind.choice → HasType s (childA s r) c → HasType s (childB s r) d → HasType s r (max c d)
 
@@ -39,5 +39,5 @@ pub data HasType (s : List ℕ) : ℕ → ℕ → Type 0 where
 -- also make an element of notAllowed incorrect, since notAllowed has no content type; document 01's restriction 3 lets
 -- notAllowed be the whole pattern of an element, so that it is no fault (docs/DECISIONS.md).
 pub data SequenceFault (s : List ℕ) (r : ℕ) : Type 0 where
-  pair-not-groupable : (c d : ℕ) → isPair (kindOf s r) ≡ true → HasType s (childA s r) c → HasType s (childB s r) d → groupable c d ≡ false → SequenceFault s r
+  sharing-not-groupable : (c d : ℕ) → sharingKind (kindOf s r) ≡ true → HasType s (childA s r) c → HasType s (childB s r) d → groupable c d ≡ false → SequenceFault s r
   repeat-not-groupable : (c : ℕ) → kindOf s r ≡ kind.oneOrMore → HasType s (childA s r) c → groupable c c ≡ false → SequenceFault s r

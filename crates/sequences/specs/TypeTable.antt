@@ -7,7 +7,7 @@ use lib.ListN.{length, getD}
 use lib.Dec.{ltb, eqb}
 use Rattle.schema.specs.Kinds as kind
 use Rattle.schema.specs.RowRule.{maxRows}
-use Rattle.places.specs.Paths.{isPair}
+use Rattle.places.specs.Paths.{sharingKind}
 use Rattle.sequences.specs.Content.{HasType, groupable, emptyType, complexType, simpleType}
 
 -- stands for a row that has no content type
@@ -30,18 +30,18 @@ typeBy k b c d =
     cond (eqb k kind.empty) emptyType
     (cond (eqb k kind.text || eqb k kind.ref) complexType
     (cond (eqb k kind.value) simpleType
-    (cond (eqb k kind.«data») (cond (eqb b kind.none || typed d) simpleType noType)
+    (cond (eqb k kind.«data») (cond (eqb b kind.noRow || typed d) simpleType noType)
     (cond (eqb k kind.attribute) (cond (typed d) emptyType noType)
     (cond (eqb k kind.oneOrMore) (cond (fits c c) c noType)
     (cond (eqb k kind.choice) (cond (typed c && typed d) (max c d) noType)
-    (cond (isPair k) (cond (fits c d) (max c d) noType)
+    (cond (sharingKind k) (cond (fits c d) (max c d) noType)
     noType)))))))
 
 -- whether the types c and d of its children do not go together in a row of kind k
 unfoldable pub clashBy : ℕ → ℕ → ℕ → Bool
 clashBy k c d =
     cond (eqb k kind.oneOrMore) (clashes c c)
-    (cond (isPair k) (clashes c d) false)
+    (cond (sharingKind k) (clashes c d) false)
 
 -- t is the content type of row r, or noType where it has none
 pub record TypeIs (s : List ℕ) (r t : ℕ) : Type 0 where

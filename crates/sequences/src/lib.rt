@@ -7,7 +7,7 @@ ghost use mathlib.Core.Bool.{cond, _&&_, _||_};
 ghost use mathlib.Core.Logic.{_⊎_};
 ghost use Rattle.tables.specs.Answers.{Finds, Decides};
 ghost use Rattle.tables.specs.Outputs.{zeros};
-ghost use Rattle.schema.specs.Kinds.{none};
+ghost use Rattle.schema.specs.Kinds.{noRow};
 ghost use Rattle.schema.specs.Rows.{rowsOf};
 ghost use Rattle.schema.specs.RowRule.{maxRows, SizeRight, SizedFault};
 ghost use Rattle.sequences.specs.Content.{groupable, SequenceFault};
@@ -59,9 +59,9 @@ fn clash_together(c: u32, d: u32) -> bool
 }
 
 fn none_or_typed(b: u32, d: u32) -> bool
-    ensures { λ r. ⌜ r ≡ (eqb b none || typed d) ⌝ }
+    ensures { λ r. ⌜ r ≡ (eqb b noRow || typed d) ⌝ }
 {
-    if b == schema::NONE { true } else { d < 3 }
+    if b == schema::NO_ROW { true } else { d < 3 }
 }
 
 // A content type where there is one; 3 stands for none.
@@ -104,7 +104,7 @@ fn row_clashes(kind: u32, c: u32, d: u32) -> bool
 
 // The content type of a child of row p, from the table of types.
 fn child_type(schema: &[u32], types: &[u32], p: u32, child: u32) -> u32
-    requires { ⌜ SizeRight (now schema) × Types (now schema) (now types) p × ((child < p) ⊎ (child ≡ none)) ⌝ }
+    requires { ⌜ SizeRight (now schema) × Types (now schema) (now types) p × ((child < p) ⊎ (child ≡ noRow)) ⌝ }
     ensures { λ r. ⌜ TypeIs (now (schema .entry)) child r ⌝ }
 {
     if child < p {

@@ -9,12 +9,12 @@ use lib.Dec.{eqb, ltb}
 use borrow.Author.Tests.{lt-ltb, le-ltb, eq-eqb, ne-eqb}
 use Rattle.tables.proofs.Numbers.{not-less}
 use Rattle.sets.specs.Bits.{positions, flag, bit}
-use Rattle.sets.specs.Collecting.{Added, Collects}
+use Rattle.sets.specs.Collecting.{MemberAdded, Collects}
 use Rattle.sets.proofs.Bits.{two-pow, bit-or, bit-none, bit-pow, one-shl}
 
 -- ---- one position more, or none
 
-pub added : (w k : ℕ) {b : Bool} → b ≡ true → Added w k b (bitOr w (2 ^ k))
+pub added : (w k : ℕ) {b : Bool} → b ≡ true → MemberAdded w k b (bitOr w (2 ^ k))
 added w k e = record { members = λ j. rw (e, bit-or w (2 ^ k) j, bit-pow k j) (itself (bit w j) (eqb j k)) }
   where
     itself : (x y : Bool) → (x || y) ≡ (x || (y && true))
@@ -22,7 +22,7 @@ added w k e = record { members = λ j. rw (e, bit-or w (2 ^ k) j, bit-pow k j) (
     itself false true = refl
     itself false false = refl
 
-pub not-added : (w k : ℕ) {b : Bool} → b ≡ false → Added w k b w
+pub not-added : (w k : ℕ) {b : Bool} → b ≡ false → MemberAdded w k b w
 not-added w k e = record { members = λ j. rw e (itself (bit w j) (eqb j k)) }
   where
     itself : (x y : Bool) → x ≡ (x || (y && false))
@@ -48,7 +48,7 @@ module _ (test : ℕ → Bool) where
       go (no f) (yes e) = rw (le-ltb k n (not-less f), eq-eqb k n e, lt-ltb k (n + 1) (omega arith)) (ap test (sym e))
       go (no f) (no g) = let l = not-less f in rw (le-ltb k n l, ne-eqb k n g, le-ltb k (n + 1) (omega arith))
 
-pub collects-more : {test : ℕ → Bool} {n w v : ℕ} {b : Bool} → Collects test n w → b ≡ test n → Added w n b v → Collects test (n + 1) v
+pub collects-more : {test : ℕ → Bool} {n w v : ℕ} {b : Bool} → Collects test n w → b ≡ test n → MemberAdded w n b v → Collects test (n + 1) v
 collects-more {test} {n} {w} c e a = record { members = λ k. rw (a .members k, c .members k, e) (below-or-at test n k) }
 
 pub collected : {test : ℕ → Bool} {n w k : ℕ} → Collects test n w → k < n → bit w k ≡ test k

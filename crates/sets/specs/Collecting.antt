@@ -6,7 +6,7 @@ use lib.Dec.{eqb, ltb}
 use Rattle.sets.specs.Bits.{bit}
 
 -- after has the members of before, and k too if so said
-pub record Added (before k : ℕ) (said : Bool) (after : ℕ) : Type 0 where
+pub record MemberAdded (before k : ℕ) (said : Bool) (after : ℕ) : Type 0 where
   pub members : (j : ℕ) → bit after j ≡ (bit before j || (eqb j k && said))
 
 -- w has the positions below n that pass a test

@@ -9,7 +9,7 @@ use lib.ListN.{length}
 use Rattle.tables.specs.Answers.{Clear}
 use Rattle.tables.specs.Tables.{StringTable}
 use Rattle.tables.proofs.Numbers.{not-less}
-use Rattle.strings.specs.Strings.{startOf, endOf, maxStrings, maxBytes, Falls, Repeats, FrontFault, EndFault, StringFault, StringsRight, bad-end, repeated, no-string, too-many-strings, too-many-bytes, first-not-empty, at-front, end-falls, last-end-wrong}
+use Rattle.strings.specs.Strings.{startOf, endOf, maxStrings, maxBytes, Falls, RepeatsText, FrontFault, EndFault, StringFault, StringsRight, bad-end, repeated, no-string, too-many-strings, too-many-bytes, first-not-empty, at-front, end-falls, last-end-wrong}
 
 -- a string other than the first starts at the end of the one before
 pub start-after : (ends : List ℕ) (k : ℕ) → k ≢ 0 → startOf ends k ≡ endOf ends (k - 1)
@@ -48,7 +48,7 @@ module _ {T : StringTable} (right : (k : ℕ) → ¬ EndFault T k) where
   end-within zero k e = not-less (λ l. right k (last-end-wrong (omega arith) (λ q. omega arith)))
   end-within (suc d) k e = le-trans (start-before-end (suc k) (omega arith)) (end-within d (suc k) (omega arith))
 
-  pub only-repeats : (k : ℕ) → StringFault T k → Repeats T k
+  pub only-repeats : (k : ℕ) → StringFault T k → RepeatsText T k
   only-repeats k (bad-end f) = absurd (right k f)
   only-repeats k (repeated r f) = f
 

@@ -38,8 +38,8 @@ abbrev pub Falls : List ℕ → ℕ → Type 0
 Falls ends k = (k < length ends) × (endOf ends k < startOf ends k)
 
 -- the text of a string before
-abbrev pub Repeats : StringTable → ℕ → Type 0
-Repeats T k = (k < length (T .ends)) × ((j : ℕ) × (j < k) × (textOf T j ≡ textOf T k))
+abbrev pub RepeatsText : StringTable → ℕ → Type 0
+RepeatsText T k = (k < length (T .ends)) × ((j : ℕ) × (j < k) × (textOf T j ≡ textOf T k))
 
 -- a fault whose place is string 0: the number of strings, the number of bytes, or a string 0 that is not empty
 pub data FrontFault (T : StringTable) (k : ℕ) : Type 0 where
@@ -57,7 +57,7 @@ pub data EndFault (T : StringTable) (k : ℕ) : Type 0 where
 -- code 1 at string k; a repeated text is a fault only where all ends are right
 pub data StringFault (T : StringTable) (k : ℕ) : Type 0 where
   bad-end : EndFault T k → StringFault T k
-  repeated : ((i : ℕ) → ¬ EndFault T i) → Repeats T k → StringFault T k
+  repeated : ((i : ℕ) → ¬ EndFault T i) → RepeatsText T k → StringFault T k
 
 -- the strings keep their rule
 abbrev pub StringsRight : StringTable → Type 0

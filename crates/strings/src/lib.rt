@@ -6,7 +6,7 @@ ghost use lib.ListN.{length};
 ghost use Rattle.tables.specs.Answers.{Decides, Finds};
 ghost use Rattle.tables.specs.Place.{Part};
 ghost use Rattle.tables.specs.Tables.{stringTable};
-ghost use Rattle.strings.specs.Strings.{startOf, endOf, Falls, Repeats, FrontFault, EndFault, StringFault, maxStrings};
+ghost use Rattle.strings.specs.Strings.{startOf, endOf, Falls, RepeatsText, FrontFault, EndFault, StringFault, maxStrings};
 ghost use Rattle.strings.specs.Chains.{hashOf, hashAt, LastOf, Linked};
 ghost use Rattle.strings.specs.Text.{StringText};
 
@@ -62,7 +62,7 @@ fn hash(text: &[u8]) -> usize
 // Whether a string before k has the text of string k. Only strings with its hash can; they are visited from the last one on, whose number is one less than `last`.
 fn repeats(bytes: &[u8], ends: &[u32], prior: &[u32; 512], last: u32, k: usize) -> bool
     requires { ⌜ (k < length (now ends)) × (k < 512) × LastOf (stringTable (now bytes) (now ends)) (hashAt (stringTable (now bytes) (now ends)) k) k last × Linked (stringTable (now bytes) (now ends)) (now prior) k ⌝ }
-    ensures { λ r. ⌜ Decides (Repeats (stringTable (now (bytes .entry)) (now (ends .entry))) k) r ⌝ }
+    ensures { λ r. ⌜ Decides (RepeatsText (stringTable (now (bytes .entry)) (now (ends .entry))) k) r ⌝ }
 {
     let own = text(bytes, ends, k);
     let mut m = last;
@@ -79,7 +79,7 @@ fn repeats(bytes: &[u8], ends: &[u32], prior: &[u32; 512], last: u32, k: usize) 
 // The first string that has the text of one before it. For each hash, `last` has one more than the number of the last string with it, and 0 where there is none; `prior` has for each string what `last` had for its hash.
 fn first_repeat(bytes: &[u8], ends: &[u32]) -> Checked
     requires { ⌜ length (now ends) ≤ maxStrings ⌝ }
-    ensures { λ r. ⌜ Finds (Repeats (stringTable (now (bytes .entry)) (now (ends .entry)))) r ⌝ }
+    ensures { λ r. ⌜ Finds (RepeatsText (stringTable (now (bytes .entry)) (now (ends .entry)))) r ⌝ }
 {
     let mut last = [0u32; 512];
     let mut prior = [0u32; 512];

@@ -23,13 +23,13 @@ use Rattle.instance.specs.NodeRule.{NodesRight}
 use Rattle.instance.specs.Elements.{isElement}
 use Rattle.instance.proofs.Elements.{rooted}
 use Rattle.instance.proofs.Size.{some-node}
-use Rattle.rules.specs.Items.{Item, element, Attributes, none, Lookups}
+use Rattle.rules.specs.Items.{Item, element, Attributes, noAttributes, Lookups}
 use Rattle.rules.specs.Rules.{Matches, NotMatchBy, choice-1, choice-2}
 use Rattle.rules.specs.Job.{lookups, Valid}
 use Rattle.rules.proofs.Inversion.{step, against}
 use Rattle.rules.proofs.Passing.{restricted}
 use Rattle.rules.proofs.Paths.{start-starts}
-use Rattle.rules.specs.Reach.{Part, Operand, operand, choice-first, choice-second}
+use Rattle.rules.specs.Reach.{Subpattern, Operand, operand, choice-first, choice-second}
 use Rattle.rules.specs.Restricted.{Starts, starts-notAllowed, starts-ref, starts-choice}
 use Rattle.rules.proofs.RowPatterns.{row-makes, from-ref, from-choice, has-kind}
 use Rattle.marks.specs.Given.{pairEntry}
@@ -75,13 +75,13 @@ module _ (s pairs : List ℕ) (p : ℕ) where
       at : v ≡ pairEntry pairs 0 (aOf s p)
       at = f ∙ ap (λ (i : ℕ). getD pairs i 0) (sym (zero-add (aOf s p)))
 
-      entry : (v ≡ 1) → Matches (lookups (tablesOf T s t)) none (element 0 ∷ []) (ref (aOf s p))
+      entry : (v ≡ 1) → Matches (lookups (tablesOf T s t)) noAttributes (element 0 ∷ []) (ref (aOf s p))
       entry z = against (lookups (tablesOf T s t)) (NotMatchBy (lookups (tablesOf T s t)) (rowsOf s)) 0 (aOf s p) .1 (right .entries 0 (aOf s p) (omega arith) (some-node (pass .nodes)) (ref-row (pass .schema .rows) p e) .0 (sym at ∙ z) .1)
 
-      back : Matches (lookups (tablesOf T s t)) none (element 0 ∷ []) (ref (aOf s p)) → v ≡ 1
+      back : Matches (lookups (tablesOf T s t)) noAttributes (element 0 ∷ []) (ref (aOf s p)) → v ≡ 1
       back m = at ∙ right .entries 0 (aOf s p) (omega arith) (some-node (pass .nodes)) (ref-row (pass .schema .rows) p e) .1 (root-element (pass .nodes), against (lookups (tablesOf T s t)) (NotMatchBy (lookups (tablesOf T s t)) (rowsOf s)) 0 (aOf s p) .0 m)
 
-      go : (r : Bool) → r ≡ eqb v 1 → Decides (Matches (lookups (tablesOf T s t)) none (element 0 ∷ []) (ref (aOf s p))) r
+      go : (r : Bool) → r ≡ eqb v 1 → Decides (Matches (lookups (tablesOf T s t)) noAttributes (element 0 ∷ []) (ref (aOf s p))) r
       go true g = entry (eqb-true v 1 (sym g))
       go false g = λ m. eqb-false v 1 (sym g) (back m)
 
@@ -101,17 +101,17 @@ module _ (s pairs : List ℕ) (p : ℕ) where
         k : Starts (lookups (tablesOf T s t)) (patternOf s p₁) × Starts (lookups (tablesOf T s t)) (patternOf s p₂)
         k = sides (lookups (tablesOf T s t)) (subst (Starts (lookups (tablesOf T s t))) is-choice starts)
 
-        no-first : Matches (lookups (tablesOf T s t)) none (element 0 ∷ []) (patternOf s p₁) → ⊥
+        no-first : Matches (lookups (tablesOf T s t)) noAttributes (element 0 ∷ []) (patternOf s p₁) → ⊥
         no-first = rw g at (h₁ T t pass right (k .0))
 
-        go : (r : Bool) → Decides (Matches (lookups (tablesOf T s t)) none (element 0 ∷ []) (patternOf s p₂)) r → Decides (Matches (lookups (tablesOf T s t)) none (element 0 ∷ []) (choice p₁ p₂)) r
+        go : (r : Bool) → Decides (Matches (lookups (tablesOf T s t)) noAttributes (element 0 ∷ []) (patternOf s p₂)) r → Decides (Matches (lookups (tablesOf T s t)) noAttributes (element 0 ∷ []) (choice p₁ p₂)) r
         go true m = choice-2 m
         go false m = neither (lookups (tablesOf T s t)) no-first m
 
     -- operands are smaller rows, and of the sort that start may have
     module _ (q : StartAsked s pairs p) where
       less : {r : ℕ} → Operand r (choice p₁ p₂) → r < p
-      less {r} i = restricted (tablesOf (q .root .strings) s (q .root .instance)) (q .root .pass .schema) .falls p r (subst (Part r) (sym is-choice) (operand i))
+      less {r} i = restricted (tablesOf (q .root .strings) s (q .root .instance)) (q .root .pass .schema) .falls p r (subst (Subpattern r) (sym is-choice) (operand i))
 
       pub first-less : p₁ < p
       first-less = less choice-first
@@ -132,8 +132,8 @@ module _ (s pairs : List ℕ) (p : ℕ) where
   pub tells-nothing : kindOf s p ≢ kind.ref → kindOf s p ≢ kind.choice → TellsRoot s pairs p false
   tells-nothing n₈ n₁₀ T t pass right starts = go (patternOf s p) refl starts
     where
-      go : (x : Pattern) → patternOf s p ≡ x → Starts (lookups (tablesOf T s t)) x → Matches (lookups (tablesOf T s t)) none (element 0 ∷ []) (patternOf s p) → ⊥
-      go x f starts-notAllowed m = never (lookups (tablesOf T s t)) (subst (Matches (lookups (tablesOf T s t)) none (element 0 ∷ [])) f m)
+      go : (x : Pattern) → patternOf s p ≡ x → Starts (lookups (tablesOf T s t)) x → Matches (lookups (tablesOf T s t)) noAttributes (element 0 ∷ []) (patternOf s p) → ⊥
+      go x f starts-notAllowed m = never (lookups (tablesOf T s t)) (subst (Matches (lookups (tablesOf T s t)) noAttributes (element 0 ∷ [])) f m)
       go x f starts-ref m = n₈ (from-ref (row-makes s p f) .0)
       go x f (starts-choice k₁ k₂) m = n₁₀ (from-choice (row-makes s p f) .0)
 

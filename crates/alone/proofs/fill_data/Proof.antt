@@ -2,7 +2,7 @@
 use Rattle.alone.proofs.RowKinds.{data-all, data-but}
 use native.Mathlib.Omega.{arith}
 use mathlib.Core.Path.{_≡_}
-use Rattle.schema.specs.Kinds.{none}
+use Rattle.schema.specs.Kinds.{noRow}
 use borrow.Author.Needs.{needs}
 use Rattle.alone.proofs.fill_data.Statement.{statement}
 use Rattle.alone.proofs.fill_data.Tie as tie
@@ -23,7 +23,7 @@ same-length-2 : tie.Need-same-length-2
 same-length-2 c = search needs
 
 returns-2 : tie.Need-returns-2
-returns-2 c = λ h. let f : ¬ (c .before .before .before .before .before .before .args .except ≡ none) = λ z. omega arith in data-but f (c .before .before .fill-neither .ensures (h f))
+returns-2 c = λ h. let f : ¬ (c .before .before .before .before .before .before .args .except ≡ noRow) = λ z. omega arith in data-but f (c .before .before .fill-neither .ensures (h f))
 
 pub fill-data-spec : {M : Type 1} → statement M
 fill-data-spec =

@@ -5,7 +5,7 @@ use native.Mathlib.Omega.{arith}
 use denote.Ref.{now}
 use lib.ListN.{length}
 use Rattle.schema.specs.RowRule.{maxRows}
-use Rattle.places.specs.Marks.{Marks}
+use Rattle.places.specs.Marks.{MarksExactly}
 use Rattle.places.proofs.Sweep.{Swept, row-end, sweep-none, sweep-more}
 use Rattle.misplaced.specs.Misplaced.{Misplaced}
 use Rattle.misplaced.proofs.Places.{marks-places}
@@ -14,7 +14,7 @@ use Rattle.misplaced.proofs.mark_places.Statement.{statement}
 use Rattle.misplaced.proofs.mark_places.Tie as tie
 
 abbrev Inv-loop : tie.InvT-loop
-Inv-loop schema bad₀ p₀ bad p = (length bad ≡ maxRows) × (p ≤ suc maxRows) × Marks (Swept schema (Misplaced schema) p) bad
+Inv-loop schema bad₀ p₀ bad p = (length bad ≡ maxRows) × (p ≤ suc maxRows) × MarksExactly (Swept schema (Misplaced schema) p) bad
 
 abbrev μ-loop : tie.MeasureT-loop
 μ-loop schema bad₀ p₀ bad p = p

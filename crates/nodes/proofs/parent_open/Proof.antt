@@ -2,13 +2,13 @@
 use Prim.Native.Nat.{_<_}
 use native.Mathlib.Omega.{arith}
 use borrow.Author.Needs.{needs}
-use Rattle.instance.specs.NodeRule.{Up}
+use Rattle.instance.specs.NodeRule.{SelfOrAncestor}
 use Rattle.instance.proofs.Ancestors.{nearest-before, up-step, open-parent, closed-parent}
 use Rattle.nodes.proofs.parent_open.Statement.{statement}
 use Rattle.nodes.proofs.parent_open.Tie as tie
 
 abbrev Inv-loop : tie.InvT-loop
-Inv-loop instance r p e₀ e = (e < r) × (Up instance p e → Up instance p e₀) × (Up instance p e₀ → Up instance p e)
+Inv-loop instance r p e₀ e = (e < r) × (SelfOrAncestor instance p e → SelfOrAncestor instance p e₀) × (SelfOrAncestor instance p e₀ → SelfOrAncestor instance p e)
 
 abbrev μ-loop : tie.MeasureT-loop
 μ-loop instance r p e₀ e = e

@@ -1,7 +1,7 @@
 -- A pair is at fault by two attributes that share a name, an attribute by an infinite class outside of a oneOrMore.
 use mathlib.Core.Path.{sym, _∙_}
 use borrow.Author.Needs.{needs}
-use Rattle.occurrences.proofs.Clashes.{pair-decides, no-attribute-fault, repeated-right, infinite-decides}
+use Rattle.occurrences.proofs.Clashes.{sharing-decides, no-attribute-fault, repeated-right, infinite-decides}
 use Rattle.occurrences.proofs.Comparing.{compared-none}
 use Rattle.occurrences.proofs.attribute_fault.Statement.{statement}
 use Rattle.occurrences.proofs.attribute_fault.Tie as tie
@@ -9,8 +9,8 @@ use Rattle.occurrences.proofs.attribute_fault.Tie as tie
 kind-requires : tie.Need-kind-requires
 kind-requires c κs = search needs
 
-is-pair-requires : tie.Need-is-pair-requires
-is-pair-requires c κs = search needs
+is-sharing-requires : tie.Need-is-sharing-requires
+is-sharing-requires c κs = search needs
 
 child-b-requires : tie.Need-child-b-requires
 child-b-requires c κs = search needs
@@ -25,10 +25,10 @@ occurs-requires : tie.Need-occurs-requires
 occurs-requires c κs = (c .before .before .before .before .before .before .before .before .pre .0, compared-none _ 1)
 
 returns : tie.Need-returns
-returns c = pair-decides (c .before .before .before .before .before .before .before .before .before .before .args .schema .now) (c .before .before .before .before .before .before .before .before .before .before .args .r) (rw (← c .before .before .before .before .before .before .before .kind .ensures) (sym (c .before .before .before .before .before .before .is-pair .ensures) ∙ c .before .before .before .before .before .if1 .taken)) (c .before .occurs .result) (rw (c .before .before .before .before .child-b .ensures, c .before .before .before .child-a .ensures) at (c .before .occurs .ensures .0))
+returns c = sharing-decides (c .before .before .before .before .before .before .before .before .before .before .args .schema .now) (c .before .before .before .before .before .before .before .before .before .before .args .r) (rw (← c .before .before .before .before .before .before .before .kind .ensures) (sym (c .before .before .before .before .before .before .is-sharing .ensures) ∙ c .before .before .before .before .before .if1 .taken)) (c .before .occurs .result) (rw (c .before .before .before .before .child-b .ensures, c .before .before .before .child-a .ensures) at (c .before .occurs .ensures .0))
 
 returns-2 : tie.Need-returns-2
-returns-2 c = no-attribute-fault (c .before .before .before .before .before .before .args .schema .now) (c .before .before .before .before .before .before .args .r) (rw (← c .before .before .before .kind .ensures) (sym (c .before .before .is-pair .ensures) ∙ c .before .if1 .left)) (λ e. c .if2 .taken (c .before .before .before .kind .ensures ∙ e))
+returns-2 c = no-attribute-fault (c .before .before .before .before .before .before .args .schema .now) (c .before .before .before .before .before .before .args .r) (rw (← c .before .before .before .kind .ensures) (sym (c .before .before .is-sharing .ensures) ∙ c .before .if1 .left)) (λ e. c .if2 .taken (c .before .before .before .kind .ensures ∙ e))
 
 word-requires : tie.Need-word-requires
 word-requires c κs = search needs
@@ -50,7 +50,7 @@ attribute-fault-spec =
     tie.close
     (tie.spec
     kind-requires
-    is-pair-requires
+    is-sharing-requires
     child-b-requires
     child-a-requires
     slice-aggregate-occurs

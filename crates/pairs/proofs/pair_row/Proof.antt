@@ -7,7 +7,7 @@ use lib.ListN.{length, length-set}
 use borrow.Author.Needs.{needs}
 use Rattle.tables.specs.Tables.{StringTable, tablesOf}
 use Rattle.schema.proofs.RowLaws.{few-rows, right-size}
-use Rattle.pairs.specs.Rows.{Ready, RowTold}
+use Rattle.pairs.specs.Rows.{ElementReady, RowTold}
 use Rattle.pairs.proofs.Entries.{given-kept, row-none, row-more, row-right}
 use Rattle.pairs.proofs.pair_row.Statement.{statement}
 use Rattle.pairs.proofs.pair_row.Tie as tie
@@ -15,7 +15,7 @@ use Rattle.pairs.proofs.pair_row.Tie as tie
 abbrev Inv-loop : tie.InvT-loop
 Inv-loop schema instance alone nothing blank definitions e attributes items texts a k weak pairs₀ marks₀ named₀ taken₀ single₀ work₀ i₀ pairs marks named taken single work i =
     (i ≤ length definitions) × (length pairs ≡ length pairs₀) × (length marks ≡ length marks₀) × (length named ≡ length named₀) × (length taken ≡ length taken₀) × (length single ≡ length single₀) × (length work ≡ length work₀)
-    × ((T : StringTable) → Ready (tablesOf T schema instance) alone nothing blank pairs₀ items e attributes texts a k weak → RowTold (tablesOf T schema instance) definitions pairs₀ pairs e i)
+    × ((T : StringTable) → ElementReady (tablesOf T schema instance) alone nothing blank pairs₀ items e attributes texts a k weak → RowTold (tablesOf T schema instance) definitions pairs₀ pairs e i)
 
 abbrev μ-loop : tie.MeasureT-loop
 μ-loop schema instance alone nothing blank definitions e attributes items texts a k weak pairs₀ marks₀ named₀ taken₀ single₀ work₀ i₀ pairs marks named taken single work i =

@@ -18,17 +18,17 @@ returns c = rw (c .before .before .source .given .1) (sym (c .before .before .be
 enum-told : tie.Need-enum-told
 enum-told c = search needs
 
-is-pair-requires : tie.Need-is-pair-requires
-is-pair-requires c κs = search needs
+is-sharing-requires : tie.Need-is-sharing-requires
+is-sharing-requires c κs = search needs
 
 returns-2 : tie.Need-returns-2
-returns-2 c = rw (c .before .before .enum-told .given .1) (λ h. true≢false (sym (h .pair) ∙ rw (← c .before .before .before .before .kind .ensures) (sym (c .before .is-pair .ensures) ∙ not-true _ (c .if2 .taken))))
+returns-2 c = rw (c .before .before .enum-told .given .1) (λ h. true≢false (sym (h .sharing) ∙ rw (← c .before .before .before .before .kind .ensures) (sym (c .before .is-sharing .ensures) ∙ not-true _ (c .if2 .taken))))
 
 word-requires : tie.Need-word-requires
 word-requires c κs = search needs
 
 returns-3 : tie.Need-returns-3
-returns-3 c = rw (c .before .before .before .before .enum-told .given .1) (record { pair = rw (← c .before .before .before .before .before .before .kind .ensures) (sym (c .before .before .before .is-pair .ensures) ∙ not-false _ (c .before .before .if2 .left)); mark = sym (c .before .word .ensures) ∙ c .if3 .taken })
+returns-3 c = rw (c .before .before .before .before .enum-told .given .1) (record { sharing = rw (← c .before .before .before .before .before .before .kind .ensures) (sym (c .before .before .before .is-sharing .ensures) ∙ not-false _ (c .before .before .if2 .left)); mark = sym (c .before .word .ensures) ∙ c .if3 .taken })
 
 returns-4 : tie.Need-returns-4
 returns-4 c = rw (c .before .before .source .given .1) (λ h. c .if1 .left (c .before .before .before .before .kind .ensures ∙ h))
@@ -44,7 +44,7 @@ is-source-spec =
     enum-known-source
     returns
     enum-told
-    is-pair-requires
+    is-sharing-requires
     returns-2
     word-requires
     returns-3

@@ -6,14 +6,14 @@ use denote.Ref.{now}
 use borrow.Author.Needs.{needs}
 use lib.ListN.{length}
 use Rattle.schema.specs.RowRule.{maxRows}
-use Rattle.places.specs.Marks.{Marks}
+use Rattle.places.specs.Marks.{MarksExactly}
 use Rattle.places.specs.Sources.{IsSource}
 use Rattle.places.proofs.Sweep.{Swept, Passed, row-end, sweep-none, sweep-below, sweep-end}
 use Rattle.places.proofs.mark_below.Statement.{statement}
 use Rattle.places.proofs.mark_below.Tie as tie
 
 abbrev Inv-loop : tie.InvT-loop
-Inv-loop schema source marks below₀ p₀ below p = (length below ≡ maxRows) × (p ≤ suc maxRows) × Marks (Swept schema (Passed schema (IsSource schema source marks)) p) below
+Inv-loop schema source marks below₀ p₀ below p = (length below ≡ maxRows) × (p ≤ suc maxRows) × MarksExactly (Swept schema (Passed schema (IsSource schema source marks)) p) below
 
 abbrev μ-loop : tie.MeasureT-loop
 μ-loop schema source marks below₀ p₀ below p = p

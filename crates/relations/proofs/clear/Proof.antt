@@ -1,13 +1,13 @@
 -- The invariant: the words from i on are empty.
 use native.Mathlib.Omega.{arith}
 use Rattle.relations.proofs.Rows.{empty-row}
-use Rattle.relations.proofs.Words.{Written, write-none, write-more, written}
+use Rattle.relations.proofs.Words.{WrittenWords, write-none, write-more, written}
 use Rattle.relations.specs.Words.{Empty}
 use Rattle.relations.proofs.clear.Statement.{statement}
 use Rattle.relations.proofs.clear.Tie as tie
 
 abbrev Inv-loop : tie.InvT-loop
-Inv-loop m w₀ i₀ w i = Written m Empty w₀ w i
+Inv-loop m w₀ i₀ w i = WrittenWords m Empty w₀ w i
 
 abbrev μ-loop : tie.MeasureT-loop
 μ-loop m w₀ i₀ w i = i

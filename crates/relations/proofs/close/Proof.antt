@@ -4,14 +4,14 @@ use borrow.Author.Needs.{needs}
 use mathlib.Core.Path.{refl, sym}
 use lib.Seq.{length-take-le}
 use Rattle.relations.proofs.Closure.{plus-low, plus-row}
-use Rattle.relations.proofs.Words.{Written, write-none, write-more, written}
+use Rattle.relations.proofs.Words.{WrittenWords, write-none, write-more, written}
 use Rattle.relations.specs.Relations.{Plus}
-use Rattle.relations.specs.Words.{Holds, front}
+use Rattle.relations.specs.Words.{WordsRelate, front}
 use Rattle.relations.proofs.close.Statement.{statement}
 use Rattle.relations.proofs.close.Tie as tie
 
 abbrev Inv-loop : tie.InvT-loop
-Inv-loop m w₀ end i₀ w i = Written m (Plus (Holds (front m w₀))) w₀ w i
+Inv-loop m w₀ end i₀ w i = WrittenWords m (Plus (WordsRelate (front m w₀))) w₀ w i
 
 abbrev μ-loop : tie.MeasureT-loop
 μ-loop m w₀ end i₀ w i = i

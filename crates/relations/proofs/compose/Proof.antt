@@ -5,14 +5,14 @@ use native.Mathlib.Omega.{arith}
 use borrow.Author.Needs.{needs}
 use Rattle.sets.specs.Bits.{positions}
 use Rattle.relations.proofs.Rows.{then-row, then-low}
-use Rattle.relations.proofs.Words.{room-front, Written, write-none, write-more, written, next-kept}
+use Rattle.relations.proofs.Words.{room-front, WrittenWords, write-none, write-more, written, next-kept}
 use Rattle.relations.specs.Relations.{Then}
-use Rattle.relations.specs.Words.{Holds, front, next}
+use Rattle.relations.specs.Words.{WordsRelate, front, next}
 use Rattle.relations.proofs.compose.Statement.{statement}
 use Rattle.relations.proofs.compose.Tie as tie
 
 abbrev Inv-loop : tie.InvT-loop
-Inv-loop m w₀ i₀ end w i = Written m (Then (Holds (front m w₀)) (Holds (next m w₀))) w₀ w i × (end ≡ positions + m)
+Inv-loop m w₀ i₀ end w i = WrittenWords m (Then (WordsRelate (front m w₀)) (WordsRelate (next m w₀))) w₀ w i × (end ≡ positions + m)
 
 abbrev μ-loop : tie.MeasureT-loop
 μ-loop m w₀ i₀ end w i = i

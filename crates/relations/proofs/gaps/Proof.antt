@@ -1,13 +1,13 @@
 -- The invariant: the words from i on hold the gaps from i on, and gap has those from i.
 use native.Mathlib.Omega.{arith}
 use Rattle.relations.proofs.Leaves.{gap-row, gap-end, gap-low}
-use Rattle.relations.proofs.Words.{Row, Written, write-none, write-more, written}
+use Rattle.relations.proofs.Words.{Row, WrittenWords, write-none, write-more, written}
 use Rattle.relations.specs.Words.{Gap}
 use Rattle.relations.proofs.gaps.Statement.{statement}
 use Rattle.relations.proofs.gaps.Tie as tie
 
 abbrev Inv-loop : tie.InvT-loop
-Inv-loop m stop w₀ gap₀ i₀ w gap i = Written m (Gap m stop) w₀ w i × Row (Gap m stop) i gap
+Inv-loop m stop w₀ gap₀ i₀ w gap i = WrittenWords m (Gap m stop) w₀ w i × Row (Gap m stop) i gap
 
 abbrev μ-loop : tie.MeasureT-loop
 μ-loop m stop w₀ gap₀ i₀ w gap i = i

@@ -2,13 +2,13 @@
 use native.Mathlib.Omega.{arith}
 use borrow.Author.Needs.{needs}
 use Rattle.relations.proofs.Leaves.{gap-row, gap-end, single-row, single-end, single-low}
-use Rattle.relations.proofs.Words.{Row, Written, write-none, write-more, written}
+use Rattle.relations.proofs.Words.{Row, WrittenWords, write-none, write-more, written}
 use Rattle.relations.specs.Words.{Gap, Single}
 use Rattle.relations.proofs.singles.Statement.{statement}
 use Rattle.relations.proofs.singles.Tie as tie
 
 abbrev Inv-loop : tie.InvT-loop
-Inv-loop m all marked w₀ gap₀ single₀ i₀ w gap single i = Written m (Single m all marked) w₀ w i × Row (Gap m all) i gap × Row (Single m all marked) i single
+Inv-loop m all marked w₀ gap₀ single₀ i₀ w gap single i = WrittenWords m (Single m all marked) w₀ w i × Row (Gap m all) i gap × Row (Single m all marked) i single
 
 abbrev μ-loop : tie.MeasureT-loop
 μ-loop m all marked w₀ gap₀ single₀ i₀ w gap single i = i

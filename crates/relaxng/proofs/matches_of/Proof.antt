@@ -1,5 +1,5 @@
 use mathlib.Core.Path.{sym, ap}
-use Rattle.relaxng.specs.Answers.{matchesOf}
+use Rattle.relaxng.specs.Answers.{matchAnswer}
 use borrow.Author.Needs.{needs}
 use Rattle.relaxng.proofs.matches_of.Statement.{statement}
 use Rattle.relaxng.proofs.matches_of.Tie as tie
@@ -16,10 +16,10 @@ enum-told : tie.Need-enum-told
 enum-told c = search needs
 
 returns : tie.Need-returns
-returns c = sym (ap matchesOf (c .before .answer .given .1))
+returns c = sym (ap matchAnswer (c .before .answer .given .1))
 
 returns-2 : tie.Need-returns-2
-returns-2 c = sym (ap matchesOf (c .before .answer2 .given .1))
+returns-2 c = sym (ap matchAnswer (c .before .answer2 .given .1))
 
 returns-3 : tie.Need-returns-3
 returns-3 c = search needs

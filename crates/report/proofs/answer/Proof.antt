@@ -1,8 +1,8 @@
 use mathlib.Core.Path.{ap}
 use native.Mathlib.Omega.{arith}
 use Rattle.tables.specs.Refusals.{codeOf}
-use Rattle.relaxng.specs.Answers.{matchesVerdict, pairCount}
-use Rattle.relaxng.specs.declared.Matches.{Matches}
+use Rattle.relaxng.specs.Answers.{matchVerdict, pairCount}
+use Rattle.relaxng.specs.declared.MatchAnswer.{MatchAnswer}
 use Rattle.report.proofs.Job.{lent-list, pairs-fit, is-answered}
 use borrow.Author.Needs.{needs}
 use Rattle.report.proofs.answer.Statement.{statement}
@@ -26,7 +26,7 @@ slice-aggregate-write-pairs : tie.Need-slice-aggregate-write-pairs
 slice-aggregate-write-pairs c = search needs
 
 write-pairs-requires : tie.Need-write-pairs-requires
-write-pairs-requires c κs = let e = c .before .before .before .matches .given .1 in let l = c .before .before .before .before .before .list2 .given in let f = pairs-fit (lent-list (c .before .before .before .before .before .before .match-list .ensures)) (ap (λ (m : Matches). codeOf (matchesVerdict m)) e) (ap pairCount e) in (omega arith, f)
+write-pairs-requires c κs = let e = c .before .before .before .matches .given .1 in let l = c .before .before .before .before .before .list2 .given in let f = pairs-fit (lent-list (c .before .before .before .before .before .before .match-list .ensures)) (ap (λ (m : MatchAnswer). codeOf (matchVerdict m)) e) (ap pairCount e) in (omega arith, f)
 
 enum-known-matches-2 : tie.Need-enum-known-matches-2
 enum-known-matches-2 c = search needs
@@ -35,7 +35,7 @@ slice-aggregate-write-pairs-2 : tie.Need-slice-aggregate-write-pairs-2
 slice-aggregate-write-pairs-2 c = search needs
 
 write-pairs-requires-2 : tie.Need-write-pairs-requires-2
-write-pairs-requires-2 c κs = let e = c .before .before .before .matches2 .given .1 in let l = c .before .before .before .before .before .list2 .given in let f = pairs-fit (lent-list (c .before .before .before .before .before .before .match-list .ensures)) (ap (λ (m : Matches). codeOf (matchesVerdict m)) e) (ap pairCount e) in (omega arith, f)
+write-pairs-requires-2 c κs = let e = c .before .before .before .matches2 .given .1 in let l = c .before .before .before .before .before .list2 .given in let f = pairs-fit (lent-list (c .before .before .before .before .before .before .match-list .ensures)) (ap (λ (m : MatchAnswer). codeOf (matchVerdict m)) e) (ap pairCount e) in (omega arith, f)
 
 enum-known-matches-3 : tie.Need-enum-known-matches-3
 enum-known-matches-3 c = search needs

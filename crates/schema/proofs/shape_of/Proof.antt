@@ -6,7 +6,7 @@ use native.Mathlib.Nat.{le-trans, le-of-suc-le-suc}
 use native.Mathlib.Omega.{arith}
 use lib.Dec.{lit≤}
 use borrow.Author.Needs.{needs}
-use Rattle.schema.proofs.Shapes.{inside, past-oneOrMore, shape-pair, shape-bad}
+use Rattle.schema.proofs.Shapes.{inside, past-oneOrMore, shape-binary, shape-bad}
 use Rattle.schema.specs.Kinds as kind
 use Rattle.schema.specs.Rows.{shapeOf}
 use Rattle.schema.proofs.shape_of.Statement.{statement}
@@ -107,7 +107,7 @@ returns-13 c =
     let k = c .before .before .before .before .before .before .args .kind in
     let m = c .before .before .before .before .before .match .rest .0 .0 .0 .0 .0 .0 in
     let low : kind.choice ≤ k = past-oneOrMore k (c .before .before .if3 .left) (m .0 .0 .1) (m .0 .1) (m .1) in
-    c .made13 .ensures ∙ sym (shape-pair k low (le-of-suc-le-suc (c .before .if4 .taken)))
+    c .made13 .ensures ∙ sym (shape-binary k low (le-of-suc-le-suc (c .before .if4 .taken)))
 
 returns-14 : tie.Need-returns-14
 returns-14 c =

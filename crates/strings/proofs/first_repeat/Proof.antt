@@ -9,14 +9,14 @@ use borrow.Author.Needs.{needs}
 use Rattle.tables.specs.Tables.{stringTable}
 use Rattle.tables.proofs.Answers.{finds-none, said-yes, said-no}
 use Rattle.tables.specs.Answers.{Clear}
-use Rattle.strings.specs.Strings.{Repeats}
+use Rattle.strings.specs.Strings.{RepeatsText}
 use Rattle.strings.specs.Chains.{Linked, Lasts}
 use Rattle.strings.proofs.Chains.{told-less, last-told, lasts-none, lasts-told, linked-more}
 use Rattle.strings.proofs.first_repeat.Statement.{statement}
 use Rattle.strings.proofs.first_repeat.Tie as tie
 
 abbrev Inv-loop : tie.InvT-loop
-Inv-loop bytes ends last₀ prior₀ k₀ last prior k = (k ≤ length ends) × Clear (Repeats (stringTable bytes ends)) k × Lasts (stringTable bytes ends) last k × (length prior ≡ 512) × Linked (stringTable bytes ends) prior k
+Inv-loop bytes ends last₀ prior₀ k₀ last prior k = (k ≤ length ends) × Clear (RepeatsText (stringTable bytes ends)) k × Lasts (stringTable bytes ends) last k × (length prior ≡ 512) × Linked (stringTable bytes ends) prior k
 
 abbrev μ-loop : tie.MeasureT-loop
 μ-loop bytes ends last₀ prior₀ k₀ last prior k = length ends - k
