@@ -17,7 +17,7 @@ pub data HasRole (k a : ℕ) : Role → Type 0 where
   role-string : (eqb k kind.value || eqb k kind.«data») ≡ true → HasRole k a oneString
   role-attribute : k ≡ kind.attribute → HasRole k a (anAttribute a)
   role-element : k ≡ kind.ref → HasRole k a (anElement a)
-  role-sharing : path.isPair k ≡ true → HasRole k a sharing
+  role-sharing : path.sharingKind k ≡ true → HasRole k a sharing
   role-another : HasRole k a another
 
 pub has-role : {k a b : ℕ} {x : Pattern} → Makes k a b x → HasRole k a (roleOf x)
@@ -59,7 +59,7 @@ module _ (L : Lookups) {k a : ℕ} (u : ℕ) where
     pub ref-made : namesElement L u x ≡ true → (k ≡ kind.ref) × ((L .isDefinition a && L .inClass (L .nameClass a) u) ≡ true)
     ref-made h = element-role (has-role m) h
 
-sharing-role : {k a : ℕ} {r : Role} → HasRole k a r → shares r ≡ true → path.isPair k ≡ true
+sharing-role : {k a : ℕ} {r : Role} → HasRole k a r → shares r ≡ true → path.sharingKind k ≡ true
 sharing-role (role-strings e) h = absurd (false≢true h)
 sharing-role (role-string e) h = absurd (false≢true h)
 sharing-role (role-attribute e) h = absurd (false≢true h)
@@ -67,7 +67,7 @@ sharing-role (role-element e) h = absurd (false≢true h)
 sharing-role (role-sharing e) h = e
 sharing-role role-another h = absurd (false≢true h)
 
-pub sharing-made : {k a b : ℕ} {x : Pattern} → Makes k a b x → isSharing x ≡ true → path.isPair k ≡ true
+pub sharing-made : {k a b : ℕ} {x : Pattern} → Makes k a b x → isSharing x ≡ true → path.sharingKind k ≡ true
 sharing-made m h = sharing-role (has-role m) h
 
 -- a pattern that takes strings is text, or takes one

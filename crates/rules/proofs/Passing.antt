@@ -142,8 +142,8 @@ module _ {strings : ℕ} (J : Tables) (pass : SchemaPasses strings (J .schema)) 
       let a = attribute-class (z .0) u (z .2) in
       passes.repeats-flat pass (z .0) (x .0) p (m .0) (child-below d (x .1)) g (⊎-elim (λ f. absurd (itself (x .0) (z .0) f g (a .0))) (λ b. b) (occurs-below (z .1))) (a .0)
     where
-      itself : (x z : ℕ) → z ≡ x → path.isPair (kindOf s x) ≡ true → kindOf s z ≡ kind.attribute → ⊥
-      itself x z f g a = false≢true (sym (ap path.isPair (ap (kindOf s) (sym f) ∙ a)) ∙ g)
+      itself : (x z : ℕ) → z ≡ x → path.sharingKind (kindOf s x) ≡ true → kindOf s z ≡ kind.attribute → ⊥
+      itself x z f g a = false≢true (sym (ap path.sharingKind (ap (kindOf s) (sym f) ∙ a)) ∙ g)
 
   -- nor data or value in what is repeated (10.3)
   not-simple : (p q : ℕ) → patternOf s p ≡ oneOrMore q → ¬ Reaches L isSimple (patternOf s q)
