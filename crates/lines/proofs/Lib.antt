@@ -1,8 +1,8 @@
 pub mod Fields
+pub mod HexPairs
 pub mod Holding
 pub mod Keys
 pub mod LastLine
-pub mod Pairs
 pub mod Passing
 pub mod Progress
 pub mod Split

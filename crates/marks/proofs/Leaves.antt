@@ -3,7 +3,7 @@ use mathlib.Core.Path.{_≡_, refl, sym, subst}
 use mathlib.Core.Logic.{_⊎_, inl, inr, _↔_, _≢_, ⊎-elim}
 use mathlib.Core.Bool.{Bool, true, false, cond, not, _&&_, false≢true}
 use mathlib.Core.List.{List, [], _∷_}
-use Prim.Native.Nat.{ℕ, _≤_, _<_}
+use Prim.Native.Nat.{ℕ, suc, _≤_, _<_}
 use native.Mathlib.Omega.{arith}
 use lib.Bits.{bitAnd}
 use lib.Dec.{eqb}
@@ -100,7 +100,7 @@ module _ {J : Tables} {alone nothing blank pairs items : List ℕ} {e attributes
           (weakly .0 w)
 
   module _ (p : ℕ) (row : p < rowsOf s) where
-    pub leaf-strings : {w : ℕ} → 3 ≤ kindOf s p → kindOf s p < 6 → Collects (stringAlone alone items texts p) (length items) w → Leaf p w
+    pub leaf-strings : {w : ℕ} → kind.text ≤ kindOf s p → kindOf s p < suc kind.value → Collects (stringAlone alone items texts p) (length items) w → Leaf p w
     leaf-strings h l c = record {
       leaves = λ k i any. rw (collected c i) (by-item k i (bit texts k) refl);
       attribute-leaves = λ nc q x f. absurd (omega (arith, from-attribute (row-makes s p f) .0));
@@ -146,7 +146,7 @@ module _ {J : Tables} {alone nothing blank pairs items : List ℕ} {e attributes
             let y = value-fits (bOf s p) (node.cOf t (attributeRow e x)) below (g .values x i) in
             (λ u. record { named = and-left n v u; valued = y .0 (and-right n v u) }, λ d. both-and (d .named) (y .1 (d .valued)))
 
-    pub leaf-none : (3 ≤ kindOf s p → ¬ (kindOf s p < 6)) → kindOf s p ≢ kind.attribute → kindOf s p ≢ kind.ref → Leaf p 0
+    pub leaf-none : (kind.text ≤ kindOf s p → ¬ (kindOf s p < suc kind.value)) → kindOf s p ≢ kind.attribute → kindOf s p ≢ kind.ref → Leaf p 0
     leaf-none no-string no-attribute no-ref = record {
       leaves = λ k i any. absurd (⊎-elim (λ h. no-string (h .0) (h .1)) no-ref (taker-kinds (row-makes s p refl) any));
       attribute-leaves = λ nc q x h. absurd (no-attribute (from-attribute (row-makes s p h) .0));

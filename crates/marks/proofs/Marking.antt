@@ -3,7 +3,7 @@ use mathlib.Core.Path.{_≡_, refl, sym, _∙_, subst}
 use mathlib.Core.Logic.{_⊎_, inl, inr, _≢_}
 use mathlib.Core.Bool.{true, false≢true}
 use mathlib.Core.List.{List}
-use Prim.Native.Nat.{ℕ, _≤_, _<_}
+use Prim.Native.Nat.{ℕ, suc, _≤_, _<_}
 use native.Mathlib.Omega.{arith}
 use native.Mathlib.Decide.{decLt, ℕ-discrete}
 use lib.Dec.{leb}
@@ -15,6 +15,7 @@ use Rattle.tables.proofs.Numbers.{not-less}
 use Rattle.schema.specs.Relations.{connective, Child, by-a, by-b, Occurs, itself, within}
 use Rattle.schema.specs.RowRule.{RowsRight}
 use Rattle.schema.specs.Rows.{kindOf, aOf, bOf, shapeOf}
+use Rattle.schema.specs.Kinds as kind
 use Rattle.schema.specs.Views.{patternOf}
 use Rattle.schema.proofs.Children.{child-less}
 use Rattle.rules.specs.Items.{Item}
@@ -26,46 +27,46 @@ use Rattle.marks.specs.Marks.{LeafWord, NamedWord, TakenWord, SingleWord
 
 -- the operands of a row by its kind
 module _ (s : List ℕ) (p : ℕ) where
-  pub first-is : 9 ≤ kindOf s p → kindOf s p < 13 → firstOperand s p ≡ aOf s p
+  pub first-is : kind.oneOrMore ≤ kindOf s p → kindOf s p < suc kind.interleave → firstOperand s p ≡ aOf s p
   unfolding firstOperand
-  first-is h l = rw (le-leb 9 (kindOf s p) h, le-leb (kindOf s p) 12 (omega arith))
+  first-is h l = rw (le-leb kind.oneOrMore (kindOf s p) h, le-leb (kindOf s p) kind.interleave (omega arith))
 
-  pub first-none : (9 ≤ kindOf s p → ¬ (kindOf s p < 13)) → firstOperand s p ≡ p
+  pub first-none : (kind.oneOrMore ≤ kindOf s p → ¬ (kindOf s p < suc kind.interleave)) → firstOperand s p ≡ p
   unfolding firstOperand
-  first-none f = go (decLt (kindOf s p) 9)
+  first-none f = go (decLt (kindOf s p) kind.oneOrMore)
     where
-      go : Dec (kindOf s p < 9) → firstOperand s p ≡ p
-      go (yes h) = rw (lt-leb 9 (kindOf s p) h)
-      go (no h) = let l = not-less h in let m = not-less (f l) in rw (le-leb 9 (kindOf s p) l, lt-leb (kindOf s p) 12 (omega arith))
+      go : Dec (kindOf s p < kind.oneOrMore) → firstOperand s p ≡ p
+      go (yes h) = rw (lt-leb kind.oneOrMore (kindOf s p) h)
+      go (no h) = let l = not-less h in let m = not-less (f l) in rw (le-leb kind.oneOrMore (kindOf s p) l, lt-leb (kindOf s p) kind.interleave (omega arith))
 
-  pub second-is : 10 ≤ kindOf s p → kindOf s p < 13 → secondOperand s p ≡ bOf s p
+  pub second-is : kind.choice ≤ kindOf s p → kindOf s p < suc kind.interleave → secondOperand s p ≡ bOf s p
   unfolding secondOperand
-  second-is h l = rw (le-leb 10 (kindOf s p) h, le-leb (kindOf s p) 12 (omega arith))
+  second-is h l = rw (le-leb kind.choice (kindOf s p) h, le-leb (kindOf s p) kind.interleave (omega arith))
 
-  pub second-none : (10 ≤ kindOf s p → ¬ (kindOf s p < 13)) → secondOperand s p ≡ p
+  pub second-none : (kind.choice ≤ kindOf s p → ¬ (kindOf s p < suc kind.interleave)) → secondOperand s p ≡ p
   unfolding secondOperand
-  second-none f = go (decLt (kindOf s p) 10)
+  second-none f = go (decLt (kindOf s p) kind.choice)
     where
-      go : Dec (kindOf s p < 10) → secondOperand s p ≡ p
-      go (yes h) = rw (lt-leb 10 (kindOf s p) h)
-      go (no h) = let l = not-less h in let m = not-less (f l) in rw (le-leb 10 (kindOf s p) l, lt-leb (kindOf s p) 12 (omega arith))
+      go : Dec (kindOf s p < kind.choice) → secondOperand s p ≡ p
+      go (yes h) = rw (lt-leb kind.choice (kindOf s p) h)
+      go (no h) = let l = not-less h in let m = not-less (f l) in rw (le-leb kind.choice (kindOf s p) l, lt-leb (kindOf s p) kind.interleave (omega arith))
 
   -- a oneOrMore has no child by its field b
-  no-second : kindOf s p ≡ 9 → {r : ℕ} → Child s r p → r ≡ aOf s p
+  no-second : kindOf s p ≡ kind.oneOrMore → {r : ℕ} → Child s r p → r ≡ aOf s p
   unfolding shapeOf
   no-second z (by-a n e) = sym e
   no-second z (by-b n e) = absurd (false≢true (rw z at n))
 
   child-operand : connective (kindOf s p) ≡ true → {r : ℕ} → Child s r p → (r ≡ firstOperand s p) ⊎ (r ≡ secondOperand s p)
-  child-operand c {r} d = go (ℕ-discrete (kindOf s p) 9) d
+  child-operand c {r} d = go (ℕ-discrete (kindOf s p) kind.oneOrMore) d
     where
-      low : 9 ≤ kindOf s p
-      low = leb-true 9 (kindOf s p) (and-left (leb 9 (kindOf s p)) (leb (kindOf s p) 12) c)
+      low : kind.oneOrMore ≤ kindOf s p
+      low = leb-true kind.oneOrMore (kindOf s p) (and-left (leb kind.oneOrMore (kindOf s p)) (leb (kindOf s p) kind.interleave) c)
 
-      high : kindOf s p ≤ 12
-      high = leb-true (kindOf s p) 12 (and-right (leb 9 (kindOf s p)) (leb (kindOf s p) 12) c)
+      high : kindOf s p ≤ kind.interleave
+      high = leb-true (kindOf s p) kind.interleave (and-right (leb kind.oneOrMore (kindOf s p)) (leb (kindOf s p) kind.interleave) c)
 
-      go : Dec (kindOf s p ≡ 9) → Child s r p → (r ≡ firstOperand s p) ⊎ (r ≡ secondOperand s p)
+      go : Dec (kindOf s p ≡ kind.oneOrMore) → Child s r p → (r ≡ firstOperand s p) ⊎ (r ≡ secondOperand s p)
       go (yes z) d = inl (no-second z d ∙ sym (first-is low (let h = high in omega arith)))
       go (no z) (by-a n e) = inl (sym e ∙ sym (first-is low (let h = high in omega arith)))
       go (no z) (by-b n e) = inr (sym e ∙ sym (second-is (let h = low in omega arith) (let h = high in omega arith)))

@@ -3,12 +3,13 @@ use mathlib.Core.Path.{_≡_, refl, sym, _∙_}
 use mathlib.Core.Logic.{_⊎_, inl, inr, _↔_, ⊎-elim}
 use mathlib.Core.Bool.{Bool, true, false, true≢false}
 use mathlib.Core.List.{List}
-use Prim.Native.Nat.{ℕ, _≤_, _<_}
+use Prim.Native.Nat.{ℕ, suc, _≤_, _<_}
 use native.Mathlib.Omega.{arith}
 use native.Mathlib.Decide.{decLt, ℕ-discrete}
 use lib.Bits.{bitOr}
 use lib.ListN.{getD}
 use borrow.Author.Tests.{ne-eqb, le-leb, lt-leb}
+use Rattle.schema.specs.Kinds as kind
 use Rattle.schema.specs.Views.{Pattern, oneOrMore, choice, group, interleave}
 use Rattle.schema.proofs.Fields.{PatternKind, is-oneOrMore, is-choice, is-group, is-interleave}
 use Rattle.tables.proofs.Numbers.{not-less}
@@ -22,24 +23,24 @@ use Rattle.marks.proofs.RowKinds.{operand-kinds}
 
 -- the union by the kind of the row
 module _ (k v w : ℕ) where
-  pub joined-one : k ≡ 9 → joinedBy k v w ≡ v
+  pub joined-one : k ≡ kind.oneOrMore → joinedBy k v w ≡ v
   unfolding joinedBy
   joined-one e = rw e
 
-  pub joined-two : 10 ≤ k → k < 13 → joinedBy k v w ≡ bitOr v w
+  pub joined-two : kind.choice ≤ k → k < suc kind.interleave → joinedBy k v w ≡ bitOr v w
   unfolding joinedBy
-  joined-two h l = rw (ne-eqb k 9 (λ e. omega arith), le-leb 10 k h, le-leb k 12 (omega arith))
+  joined-two h l = rw (ne-eqb k kind.oneOrMore (λ e. omega arith), le-leb kind.choice k h, le-leb k kind.interleave (omega arith))
 
-  pub joined-none : (9 ≤ k → ¬ (k < 13)) → joinedBy k v w ≡ 0
+  pub joined-none : (kind.oneOrMore ≤ k → ¬ (k < suc kind.interleave)) → joinedBy k v w ≡ 0
   unfolding joinedBy
-  joined-none f = go (decLt k 9)
+  joined-none f = go (decLt k kind.oneOrMore)
     where
-      go : Dec (k < 9) → joinedBy k v w ≡ 0
-      go (yes h) = rw (ne-eqb k 9 (λ e. omega arith), lt-leb 10 k (omega arith))
+      go : Dec (k < kind.oneOrMore) → joinedBy k v w ≡ 0
+      go (yes h) = rw (ne-eqb k kind.oneOrMore (λ e. omega arith), lt-leb kind.choice k (omega arith))
       go (no h) =
           let l = not-less h in
           let m = not-less (f l) in
-          rw (ne-eqb k 9 (λ e. omega arith), le-leb 10 k (omega arith), lt-leb k 12 (omega arith))
+          rw (ne-eqb k kind.oneOrMore (λ e. omega arith), le-leb kind.choice k (omega arith), lt-leb k kind.interleave (omega arith))
 
 -- the operands of a connective
 operand-one : {r a : ℕ} → Operand r (oneOrMore a) → r ≡ a
@@ -57,10 +58,10 @@ operand-interleave : {r a b : ℕ} → Operand r (interleave a b) → (r ≡ a) 
 operand-interleave interleave-first = inl refl
 operand-interleave interleave-second = inr refl
 
-no-operand-kind : {k : ℕ} → ¬ PatternKind k → 9 ≤ k → ¬ (k < 13)
-no-operand-kind {k} n h l = go (ℕ-discrete k 9) (ℕ-discrete k 10) (ℕ-discrete k 11)
+no-operand-kind : {k : ℕ} → ¬ PatternKind k → kind.oneOrMore ≤ k → ¬ (k < suc kind.interleave)
+no-operand-kind {k} n h l = go (ℕ-discrete k kind.oneOrMore) (ℕ-discrete k kind.choice) (ℕ-discrete k kind.group)
   where
-    go : Dec (k ≡ 9) → Dec (k ≡ 10) → Dec (k ≡ 11) → ⊥
+    go : Dec (k ≡ kind.oneOrMore) → Dec (k ≡ kind.choice) → Dec (k ≡ kind.group) → ⊥
     go (yes e) c d = n (is-oneOrMore e)
     go (no f) (yes e) d = n (is-choice e)
     go (no f) (no g) (yes e) = n (is-group e)
@@ -76,13 +77,13 @@ module _ (words : List ℕ) (j : ℕ) where
   Joined k a b x = (bit (joinedBy k (getD words a 0) (getD words b 0)) j ≡ true) ↔ InOperand x
 
   module _ (k a b : ℕ) where
-    leaf : {x : Pattern} → Makes k a b x → (9 ≤ k → ¬ (k < 13)) → Joined k a b x
+    leaf : {x : Pattern} → Makes k a b x → (kind.oneOrMore ≤ k → ¬ (k < suc kind.interleave)) → Joined k a b x
     leaf m f = (
       λ h. absurd (none-has j (rw (joined-none k (getD words a 0) (getD words b 0) f) at h)),
       λ o. let i = operand-kinds (o .1) m in absurd (f (i .0) (i .1)),
     )
 
-    two : {x : Pattern} → 10 ≤ k → k < 13 → Operand a x → Operand b x → ((r : ℕ) → Operand r x → (r ≡ a) ⊎ (r ≡ b)) → Joined k a b x
+    two : {x : Pattern} → kind.choice ≤ k → k < suc kind.interleave → Operand a x → Operand b x → ((r : ℕ) → Operand r x → (r ≡ a) ⊎ (r ≡ b)) → Joined k a b x
     two {x} h l first second only = rw (joined-two k (getD words a 0) (getD words b 0) h l) (to, from)
       where
         to : bit (bitOr (getD words a 0) (getD words b 0)) j ≡ true → InOperand x

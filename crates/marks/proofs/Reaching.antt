@@ -3,7 +3,7 @@ use mathlib.Core.Path.{_≡_, refl, sym, _∙_, ap}
 use mathlib.Core.Logic.{_↔_, _≢_}
 use mathlib.Core.Bool.{Bool, true, false, cond, not, _&&_}
 use mathlib.Core.List.{List}
-use Prim.Native.Nat.{ℕ, _≤_, _<_}
+use Prim.Native.Nat.{ℕ, suc, _≤_, _<_}
 use native.Mathlib.Omega.{arith}
 use lib.ListN.{length, getD}
 use Rattle.tables.specs.Tables.{Tables}
@@ -38,7 +38,7 @@ string-no-name L e of-text = refl
 string-no-name L e (of-string i) = ap (elementBy L e) i
 
 -- a row of another kind takes no item
-other-takes : (L : Lookups) {k a b : ℕ} {x : Pattern} → Makes k a b x → (3 ≤ k → ¬ (k < 6)) → k ≢ kind.ref → (y : Item) → takes L y x ≡ false
+other-takes : (L : Lookups) {k a b : ℕ} {x : Pattern} → Makes k a b x → (kind.text ≤ k → ¬ (k < suc kind.value)) → k ≢ kind.ref → (y : Item) → takes L y x ≡ false
 other-takes L {x = x} m no-string no-ref (element u) = is-false (namesElement L u x) (λ h. no-ref (ref-made L u m h .0))
 other-takes L {x = x} m no-string no-ref (string v) = is-false (takesString x) (λ h. let i = string-kinds m h in no-string (i .0) (i .1))
 
@@ -53,7 +53,7 @@ module _ (J : Tables) (pass : SchemaPasses (schemaStrings (J .strings)) (J .sche
   L = lookups J
 
   -- a leaf reaches itself alone
-  leaf-reaches : {test : Pattern → Bool} {b : Bool} → kindOf s p < 9 → test (patternOf s p) ≡ b → (b ≡ true) ↔ Reaches L test (patternOf s p)
+  leaf-reaches : {test : Pattern → Bool} {b : Bool} → kindOf s p < kind.oneOrMore → test (patternOf s p) ≡ b → (b ≡ true) ↔ Reaches L test (patternOf s p)
   leaf-reaches h f = (λ u. here (f ∙ u), λ i. sym f ∙ reaches-itself L (λ r o. let k = operand-kinds o (row-makes s p refl) .0 in omega arith) i)
 
   module _ (e attributes : ℕ) where
@@ -73,7 +73,7 @@ module _ (J : Tables) (pass : SchemaPasses (schemaStrings (J .strings)) (J .sche
     abbrev Taken : ℕ → ℕ → Type 0
     Taken = TakenWord J (itemAt (J .strings) items texts) (length items)
 
-    pub taken-strings : 3 ≤ kindOf s p → kindOf s p < 6 → Taken p texts
+    pub taken-strings : kind.text ≤ kindOf s p → kindOf s p < suc kind.value → Taken p texts
     taken-strings h l k i = leaf-reaches (omega arith) (by-item (bit texts k))
       where
         is-string : StringPattern (patternOf s p)
@@ -90,7 +90,7 @@ module _ (J : Tables) (pass : SchemaPasses (schemaStrings (J .strings)) (J .sche
         by-item true = rw (ref-at s p f)
         by-item false = rw (ref-at s p f, ref-definition (pass .rows) p f)
 
-    pub taken-other : {w : ℕ} (taken : List ℕ) → (3 ≤ kindOf s p → ¬ (kindOf s p < 6)) → kindOf s p ≢ kind.ref
+    pub taken-other : {w : ℕ} (taken : List ℕ) → (kind.text ≤ kindOf s p → ¬ (kindOf s p < suc kind.value)) → kindOf s p ≢ kind.ref
         → w ≡ joinedBy (kindOf s p) (getD taken (aOf s p) 0) (getD taken (bOf s p) 0) → AtOperands s Taken taken p → Taken p w
     taken-other taken no-string no-ref q operands k h =
         let m = row-makes s p refl in

@@ -3,7 +3,7 @@ use mathlib.Core.Path.{_≡_, refl}
 use mathlib.Core.Logic.{_⊎_, inl, inr, ⊎-elim}
 use mathlib.Core.Bool.{true, _||_, false≢true}
 use mathlib.Core.List.{List}
-use Prim.Native.Nat.{ℕ, _≤_, _<_}
+use Prim.Native.Nat.{ℕ, suc, _≤_, _<_}
 use native.Mathlib.Omega.{arith}
 use native.Mathlib.Decide.{ℕ-discrete}
 use lib.Dec.{eqb}
@@ -24,11 +24,11 @@ pub data StringPattern : Pattern → Type 0 where
   of-text : StringPattern text
   of-string : {x : Pattern} → roleOf x ≡ oneString → StringPattern x
 
-string-kind : {k : ℕ} → (eqb k kind.value || eqb k kind.«data») ≡ true → (3 ≤ k) × (k < 6)
+string-kind : {k : ℕ} → (eqb k kind.value || eqb k kind.«data») ≡ true → (kind.text ≤ k) × (k < suc kind.value)
 string-kind {k} h = ⊎-elim (λ e. let i = eqb-true k kind.value e in (omega arith, omega arith)) (λ e. let i = eqb-true k kind.«data» e in (omega arith, omega arith)) (or-either _ _ h)
 
 module _ {k a : ℕ} where
-  taker-role : {r : Role} → HasRole k a r → itemBy r ≡ true → ((3 ≤ k) × (k < 6)) ⊎ (k ≡ kind.ref)
+  taker-role : {r : Role} → HasRole k a r → itemBy r ≡ true → ((kind.text ≤ k) × (k < suc kind.value)) ⊎ (k ≡ kind.ref)
   taker-role (role-strings e) h = inl (omega arith, omega arith)
   taker-role (role-string e) h = inl (string-kind e)
   taker-role (role-attribute e) h = absurd (false≢true h)
@@ -36,7 +36,7 @@ module _ {k a : ℕ} where
   taker-role (role-sharing e) h = absurd (false≢true h)
   taker-role role-another h = absurd (false≢true h)
 
-  string-role : {r : Role} → HasRole k a r → stringBy r ≡ true → (3 ≤ k) × (k < 6)
+  string-role : {r : Role} → HasRole k a r → stringBy r ≡ true → (kind.text ≤ k) × (k < suc kind.value)
   string-role (role-strings e) h = (omega arith, omega arith)
   string-role (role-string e) h = string-kind e
   string-role (role-attribute e) h = absurd (false≢true h)
@@ -45,7 +45,7 @@ module _ {k a : ℕ} where
   string-role role-another h = absurd (false≢true h)
 
 module _ {k a b : ℕ} where
-  pub string-made : {x : Pattern} → 3 ≤ k → k < 6 → Makes k a b x → StringPattern x
+  pub string-made : {x : Pattern} → kind.text ≤ k → k < suc kind.value → Makes k a b x → StringPattern x
   string-made h l (makes-text e) = of-text
   string-made h l (makes-data e f) = of-string refl
   string-made h l (makes-except e f) = of-string refl
@@ -58,25 +58,25 @@ module _ {k a b : ℕ} where
   string-made h l (makes-choice e) = absurd (omega arith)
   string-made h l (makes-group e) = absurd (omega arith)
   string-made h l (makes-interleave e) = absurd (omega arith)
-  string-made h l (makes-none n) = absurd (go (ℕ-discrete k 3) (ℕ-discrete k 4))
+  string-made h l (makes-none n) = absurd (go (ℕ-discrete k kind.text) (ℕ-discrete k kind.«data»))
     where
-      go : Dec (k ≡ 3) → Dec (k ≡ 4) → ⊥
+      go : Dec (k ≡ kind.text) → Dec (k ≡ kind.«data») → ⊥
       go (yes e) d = n (is-text e)
       go (no f) (yes e) = n (is-data e)
       go (no f) (no g) = n (is-value (omega arith))
 
   -- the other way
-  pub string-kinds : {x : Pattern} → Makes k a b x → takesString x ≡ true → (3 ≤ k) × (k < 6)
+  pub string-kinds : {x : Pattern} → Makes k a b x → takesString x ≡ true → (kind.text ≤ k) × (k < suc kind.value)
   string-kinds m h = string-role (has-role m) h
 
-  pub taker-kinds : {x : Pattern} → Makes k a b x → takesAny x ≡ true → ((3 ≤ k) × (k < 6)) ⊎ (k ≡ kind.ref)
+  pub taker-kinds : {x : Pattern} → Makes k a b x → takesAny x ≡ true → ((kind.text ≤ k) × (k < suc kind.value)) ⊎ (k ≡ kind.ref)
   taker-kinds m h = taker-role (has-role m) h
 
   pub from-attribute : {nc q : ℕ} → Makes k a b (attribute nc q) → (k ≡ kind.attribute) × (a ≡ nc) × (b ≡ q)
   from-attribute (makes-attribute e) = (e, refl, refl)
 
   -- a pattern with operands is a connective, and a group or interleave past choice
-  pub operand-kinds : {r : ℕ} {x : Pattern} → Operand r x → Makes k a b x → (9 ≤ k) × (k < 13)
+  pub operand-kinds : {r : ℕ} {x : Pattern} → Operand r x → Makes k a b x → (kind.oneOrMore ≤ k) × (k < suc kind.interleave)
   operand-kinds repeated (makes-oneOrMore e) = (omega arith, omega arith)
   operand-kinds choice-first (makes-choice e) = (omega arith, omega arith)
   operand-kinds choice-second (makes-choice e) = (omega arith, omega arith)
@@ -85,14 +85,14 @@ module _ {k a b : ℕ} where
   operand-kinds interleave-first (makes-interleave e) = (omega arith, omega arith)
   operand-kinds interleave-second (makes-interleave e) = (omega arith, omega arith)
 
-  pub operand-pair : {r : ℕ} {x : Pattern} → Operand r x → Makes k a b x → 11 ≤ k → isSharing x ≡ true
-  operand-pair repeated (makes-oneOrMore e) h = absurd (omega arith)
-  operand-pair choice-first (makes-choice e) h = absurd (omega arith)
-  operand-pair choice-second (makes-choice e) h = absurd (omega arith)
-  operand-pair group-first (makes-group e) h = refl
-  operand-pair group-second (makes-group e) h = refl
-  operand-pair interleave-first (makes-interleave e) h = refl
-  operand-pair interleave-second (makes-interleave e) h = refl
+  pub operand-sharing : {r : ℕ} {x : Pattern} → Operand r x → Makes k a b x → kind.group ≤ k → isSharing x ≡ true
+  operand-sharing repeated (makes-oneOrMore e) h = absurd (omega arith)
+  operand-sharing choice-first (makes-choice e) h = absurd (omega arith)
+  operand-sharing choice-second (makes-choice e) h = absurd (omega arith)
+  operand-sharing group-first (makes-group e) h = refl
+  operand-sharing group-second (makes-group e) h = refl
+  operand-sharing interleave-first (makes-interleave e) h = refl
+  operand-sharing interleave-second (makes-interleave e) h = refl
 
 module _ (s : List ℕ) (p : ℕ) where
   pub attribute-at : kindOf s p ≡ kind.attribute → patternOf s p ≡ attribute (aOf s p) (bOf s p)

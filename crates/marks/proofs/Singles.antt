@@ -33,7 +33,7 @@ use Rattle.marks.specs.Answers.{AtOperands}
 use Rattle.marks.specs.Marks.{attributeRow, TakesAttribute, AttributeWord, SingleWord}
 use Rattle.marks.specs.Tests.{joinedBy}
 use Rattle.marks.proofs.Operands.{joined-operands}
-use Rattle.marks.proofs.RowKinds.{attribute-at, oneOrMore-at, choice-at, operand-kinds, operand-pair}
+use Rattle.marks.proofs.RowKinds.{attribute-at, oneOrMore-at, choice-at, operand-kinds, operand-sharing}
 
 -- a set of one member has no other
 same-only : (x y : ℕ) → only x ≡ only y → x ≡ y
@@ -84,10 +84,10 @@ module _ (J : Tables) (e attributes : ℕ) (pass : SchemaPasses (schemaStrings (
   Single = SingleWord J e attributes
 
   -- a oneOrMore or choice is matched by an operand
-  by-operand : (y : ℕ) → 9 ≤ kindOf s p → kindOf s p < 11 → ((r : ℕ) × Operand r (patternOf s p) × Alone L y (patternOf s r)) ↔ Alone L y (patternOf s p)
-  by-operand y h l = go (decLt (kindOf s p) 10)
+  by-operand : (y : ℕ) → kind.oneOrMore ≤ kindOf s p → kindOf s p < kind.group → ((r : ℕ) × Operand r (patternOf s p) × Alone L y (patternOf s r)) ↔ Alone L y (patternOf s p)
+  by-operand y h l = go (decLt (kindOf s p) kind.choice)
     where
-      go : Dec (kindOf s p < 10) → ((r : ℕ) × Operand r (patternOf s p) × Alone L y (patternOf s r)) ↔ Alone L y (patternOf s p)
+      go : Dec (kindOf s p < kind.choice) → ((r : ℕ) × Operand r (patternOf s p) × Alone L y (patternOf s r)) ↔ Alone L y (patternOf s p)
       go (yes i) =
           let f = oneOrMore-at s p (omega arith) in
           (λ o. rw f (repeated-from L y (rw f at (o .1)) (o .2)), λ d. (aOf s p, rw f repeated, alone-repeated L (restricted J pass) y p (aOf s p) f d))
@@ -102,7 +102,7 @@ module _ (J : Tables) (e attributes : ℕ) (pass : SchemaPasses (schemaStrings (
       let i = alone-attribute L (attributeRow e x) (aOf s p) (bOf s p) in
       rw (attribute-at s p f) (λ u. i .0 (a .0 u), λ d. a .1 (i .1 d))
 
-  pub single-operands : {w : ℕ} (single : List ℕ) → 9 ≤ kindOf s p → kindOf s p < 11 → w ≡ joinedBy (kindOf s p) (getD single (aOf s p) 0) (getD single (bOf s p) 0)
+  pub single-operands : {w : ℕ} (single : List ℕ) → kind.oneOrMore ≤ kindOf s p → kindOf s p < kind.group → w ≡ joinedBy (kindOf s p) (getD single (aOf s p) 0) (getD single (bOf s p) 0)
       → AtOperands s Single single p → Single p w
   single-operands single h l q operands x i flat =
       let y = attributeRow e x in
@@ -110,7 +110,7 @@ module _ (J : Tables) (e attributes : ℕ) (pass : SchemaPasses (schemaStrings (
       let o = by-operand y h l in
       rw q (λ u. o .0 (j .0 u), λ d. j .1 (o .1 d))
 
-  pub single-none : kindOf s p ≢ kind.attribute → (9 ≤ kindOf s p → ¬ (kindOf s p < 11)) → Single p 0
+  pub single-none : kindOf s p ≢ kind.attribute → (kind.oneOrMore ≤ kindOf s p → ¬ (kindOf s p < kind.group)) → Single p 0
   single-none no-attribute no-operand x h flat = (λ u. absurd (none-has x u), λ d. absurd (unreached (named L (NotMatch L) d y (eq-eqb y y refl))))
     where
       y : ℕ
@@ -122,4 +122,4 @@ module _ (J : Tables) (e attributes : ℕ) (pass : SchemaPasses (schemaStrings (
       -- a pattern that reaches an attribute is one, or has operands; a group or interleave is not flat then
       unreached : ¬ Reaches L (namesAttribute L y) (patternOf s p)
       unreached (here i) = no-attribute (attribute-made L y made i .0)
-      unreached (there r o i) = flat (patternOf s p) itself (operand-pair o made (let k = operand-kinds o made in let z = not-less (no-operand (k .0)) in omega arith)) y (there r o i)
+      unreached (there r o i) = flat (patternOf s p) itself (operand-sharing o made (let k = operand-kinds o made in let z = not-less (no-operand (k .0)) in omega arith)) y (there r o i)

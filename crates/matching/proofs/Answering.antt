@@ -1,5 +1,5 @@
 -- The words that answer for row p, by its kind: what the code cites where it returns.
-use Prim.Native.Nat.{ℕ, _+_, _-_, _*_, _^_, _≤_, _<_}
+use Prim.Native.Nat.{ℕ, suc, _+_, _-_, _*_, _^_, _≤_, _<_}
 use mathlib.Core.Path.{_≡_, refl, sym, ap, _∙_, subst}
 use mathlib.Core.Bool.{Bool, true, false, true≢false}
 use mathlib.Core.List.{List}
@@ -29,11 +29,11 @@ use Rattle.matching.specs.Parts.{Where, OneIn, Repetition, HoldsLeaf, Sh
 use Rattle.matching.proofs.Shares.{asked-part, operand-covered}
 use Rattle.matching.proofs.Conditions.{front-put, next-put}
 use Rattle.matching.proofs.Leaves.{related-empty, related-text, related-string, related-ref, related-attribute, related-nothing}
-use Rattle.matching.proofs.Pairs.{related-choice, related-group, related-interleave}
+use Rattle.matching.proofs.TwoOperands.{related-choice, related-group, related-interleave}
 use Rattle.matching.proofs.Repetitions.{related-oneOrMore}
 
 -- the kinds that match nothing
-nothing-made : {k a b : ℕ} {x : Pattern} → Makes k a b x → k ≢ 1 → k ≢ 3 → k ≢ 4 → k ≢ 5 → k ≢ 8 → k ≢ 7 → connective k ≡ false → (x ≡ notAllowed) ⊎ (x ≡ noPattern)
+nothing-made : {k a b : ℕ} {x : Pattern} → Makes k a b x → k ≢ kind.empty → k ≢ kind.text → k ≢ kind.«data» → k ≢ kind.value → k ≢ kind.ref → k ≢ kind.attribute → connective k ≡ false → (x ≡ notAllowed) ⊎ (x ≡ noPattern)
 nothing-made (makes-empty e) n₁ n₃ n₄ n₅ n₈ n₇ c = absurd (n₁ e)
 nothing-made (makes-notAllowed e) n₁ n₃ n₄ n₅ n₈ n₇ c = inl refl
 nothing-made (makes-text e) n₁ n₃ n₄ n₅ n₈ n₇ c = absurd (n₃ e)
@@ -49,7 +49,7 @@ nothing-made (makes-interleave e) n₁ n₃ n₄ n₅ n₈ n₇ c = absurd (true
 nothing-made (makes-none n) n₁ n₃ n₄ n₅ n₈ n₇ c = inr refl
 
 -- the kinds of patterns of one string
-string-role : {k a b : ℕ} {x : Pattern} → Makes k a b x → 4 ≤ k → k < 6 → roleOf x ≡ oneString
+string-role : {k a b : ℕ} {x : Pattern} → Makes k a b x → kind.«data» ≤ k → k < suc kind.value → roleOf x ≡ oneString
 string-role (makes-data e f) l u = refl
 string-role (makes-except e f) l u = refl
 string-role (makes-value e) l u = refl
@@ -72,11 +72,11 @@ module _ (s : List ℕ) (p : ℕ) where
   -- ---- a row without operands, where kind and mark are what was read
 
   module _ (marks : List ℕ) {w : List ℕ} {m a k κ mark : ℕ} (is-kind : κ ≡ kindOf s p) (is-mark : mark ≡ getD marks p 0) where
-    pub answers-empty : κ ≡ 1 → Is w (Where (a ≡ 0) (Gap m k)) → HoldsLeaf s marks m a k p w
+    pub answers-empty : κ ≡ kind.empty → Is w (Where (a ≡ 0) (Gap m k)) → HoldsLeaf s marks m a k p w
     unfolding patternBy
     answers-empty e is c named taken single S asked covered = related-empty S m asked covered w (by-kind (sym is-kind ∙ e)) is
 
-    pub answers-text : k < 2 ^ 64 → mark < 2 ^ 64 → κ ≡ 3 → Is w (Where (a ≡ 0) (Gap m (bitAnd k (2 ^ 64 - 1 - mark)))) → HoldsLeaf s marks m a k p w
+    pub answers-text : k < kind.notAllowed ^ 64 → mark < 2 ^ 64 → κ ≡ kind.text → Is w (Where (a ≡ 0) (Gap m (bitAnd k (2 ^ 64 - 1 - mark)))) → HoldsLeaf s marks m a k p w
     unfolding patternBy
     answers-text hk hm e is c named taken single S asked covered =
         related-text S m asked covered w hk (subst (λ (n : ℕ). n < 2 ^ 64) is-mark hm) (by-kind (sym is-kind ∙ e)) (subst (λ (n : ℕ). Is w (Where (a ≡ 0) (Gap m (bitAnd k (2 ^ 64 - 1 - n))))) is-mark is)
@@ -86,25 +86,25 @@ module _ (s : List ℕ) (p : ℕ) where
       marked = subst (λ (n : ℕ). Is w (Where (a ≡ 0) (Single m k n))) is-mark is
 
       -- data and value
-      answers-string : 4 ≤ κ → κ < 6 → HoldsLeaf s marks m a k p w
+      answers-string : kind.«data» ≤ κ → κ < suc kind.value → HoldsLeaf s marks m a k p w
       answers-string l u c named taken single S asked covered =
           related-string S m asked covered w (string-role (subst (λ (n : ℕ). Makes n (aOf s p) (bOf s p) (patternOf s p)) (sym is-kind) (row-makes s p refl)) l u) marked
 
-      answers-ref : κ ≡ 8 → HoldsLeaf s marks m a k p w
+      answers-ref : κ ≡ kind.ref → HoldsLeaf s marks m a k p w
       unfolding patternBy
       answers-ref e c named taken single S asked covered = related-ref S m asked covered w (by-kind (sym is-kind ∙ e)) marked
 
       -- data, value and ref take one item
-      pub answers-item : (κ ≡ 8) ⊎ ((4 ≤ κ) × (κ < 6)) → HoldsLeaf s marks m a k p w
+      pub answers-item : (κ ≡ kind.ref) ⊎ ((kind.«data» ≤ κ) × (κ < suc kind.value)) → HoldsLeaf s marks m a k p w
       answers-item (inl e) = answers-ref e
       answers-item (inr (l, u)) = answers-string l u
 
-    pub answers-attribute : κ ≡ 7 → Is w (Where (OneIn a mark) (Gap m k)) → HoldsLeaf s marks m a k p w
+    pub answers-attribute : κ ≡ kind.attribute → Is w (Where (OneIn a mark) (Gap m k)) → HoldsLeaf s marks m a k p w
     unfolding patternBy
     answers-attribute e is c named taken single S asked covered =
         related-attribute S m asked covered w (by-kind (sym is-kind ∙ e)) (subst (λ (n : ℕ). Is w (Where (OneIn a n) (Gap m k))) is-mark is)
 
-    pub answers-nothing : κ ≢ 1 → κ ≢ 3 → κ ≢ 4 → κ ≢ 5 → κ ≢ 8 → κ ≢ 7 → Is w Empty → HoldsLeaf s marks m a k p w
+    pub answers-nothing : κ ≢ kind.empty → κ ≢ kind.text → κ ≢ kind.«data» → κ ≢ kind.value → κ ≢ kind.ref → κ ≢ kind.attribute → Is w Empty → HoldsLeaf s marks m a k p w
     answers-nothing n₁ n₃ n₄ n₅ n₈ n₇ is c named taken single S asked covered =
         related-nothing S m asked covered w (nothing-made (subst (λ (n : ℕ). Makes n (aOf s p) (bOf s p) (patternOf s p)) (sym is-kind) (row-makes s p refl)) n₁ n₃ n₄ n₅ n₈ n₇ (subst (λ (n : ℕ). connective n ≡ false) (sym is-kind) c)) is
 
@@ -148,7 +148,7 @@ module _ (s : List ℕ) (p : ℕ) where
           let y = both .second S (asked-part S asked (λ x h. and-has a (2 ^ 64 - 1 - n) x h .0) (λ x h. h)) u₂ in
           related-group S m asked p (aOf s p) (bOf s p) u₁ ha (rw is-named at hn) (by-kind e) (rw is-named at x) (rw is-named at y) is
 
-      pub answers-interleave : {t : ℕ} → k < 2 ^ 64 → t < 2 ^ 64 → t ≡ getD taken q 0 → kindOf s p ≡ kind.interleave
+      pub answers-interleave : {t : ℕ} → k < kind.notAllowed ^ 64 → t < 2 ^ 64 → t ≡ getD taken q 0 → kindOf s p ≡ kind.interleave
           → Operands s marks named taken single m p (bitAnd a n) (bitAnd k t) (bitAnd a (2 ^ 64 - 1 - n)) (bitAnd k (2 ^ 64 - 1 - t)) v → Is w (And (WordsRelate (front m v)) (WordsRelate (next m v)))
           → HoldsRelated s marks named taken single m a k p w
       unfolding patternBy
@@ -238,5 +238,5 @@ module _ (s : List ℕ) (p : ℕ) where
     }
 
 -- a kind that is none of the four connectives
-pub not-connective : {κ k : ℕ} → κ ≡ k → κ ≢ 9 → κ ≢ 10 → κ ≢ 11 → κ ≢ 12 → connective k ≡ false
-not-connective {κ} {k} e n₉ n₁₀ n₁₁ n₁₂ = is-false (connective k) (λ h. let l = leb-true 9 k (and-left (leb 9 k) (leb k 12) h) in let u = leb-true k 12 (and-right (leb 9 k) (leb k 12) h) in omega arith)
+pub not-connective : {κ k : ℕ} → κ ≡ k → κ ≢ kind.oneOrMore → κ ≢ kind.choice → κ ≢ kind.group → κ ≢ kind.interleave → connective k ≡ false
+not-connective {κ} {k} e n₉ n₁₀ n₁₁ n₁₂ = is-false (connective k) (λ h. let l = leb-true kind.oneOrMore k (and-left (leb kind.oneOrMore k) (leb k kind.interleave) h) in let u = leb-true k kind.interleave (and-right (leb kind.oneOrMore k) (leb k kind.interleave) h) in omega arith)

@@ -42,7 +42,7 @@ either P true f g = f refl
 either P false f g = g refl
 
 -- a number that is none of the kinds of patterns
-module _ (k : ℕ) (e₁ : eqb k 1 ≡ false) (e₂ : eqb k 2 ≡ false) (e₃ : eqb k 3 ≡ false) (e₄ : eqb k 4 ≡ false) (e₅ : eqb k 5 ≡ false) (e₆ : eqb k 7 ≡ false) (e₇ : eqb k 8 ≡ false) (e₈ : eqb k 9 ≡ false) (e₉ : eqb k 10 ≡ false) (e₁₀ : eqb k 11 ≡ false) (e₁₁ : eqb k 12 ≡ false) where
+module _ (k : ℕ) (e₁ : eqb k kind.empty ≡ false) (e₂ : eqb k kind.notAllowed ≡ false) (e₃ : eqb k kind.text ≡ false) (e₄ : eqb k kind.«data» ≡ false) (e₅ : eqb k kind.value ≡ false) (e₆ : eqb k kind.attribute ≡ false) (e₇ : eqb k kind.ref ≡ false) (e₈ : eqb k kind.oneOrMore ≡ false) (e₉ : eqb k kind.choice ≡ false) (e₁₀ : eqb k kind.group ≡ false) (e₁₁ : eqb k kind.interleave ≡ false) where
   no-kind : ¬ PatternKind k
   no-kind (is-empty e) = eqb-false _ _ e₁ e
   no-kind (is-notAllowed e) = eqb-false _ _ e₂ e
@@ -60,17 +60,17 @@ made : (k a b : ℕ) → Makes k a b (patternBy k a b)
 unfolding patternBy
 made k a b =
     let P = Makes k a b in
-    either P (eqb k 1) (λ e. makes-empty (eqb-true _ _ e)) (λ e₁.
-    either P (eqb k 2) (λ e. makes-notAllowed (eqb-true _ _ e)) (λ e₂.
-    either P (eqb k 3) (λ e. makes-text (eqb-true _ _ e)) (λ e₃.
-    either P (eqb k 4) (λ e. either P (eqb b kind.noRow) (λ f. makes-data (eqb-true _ _ e) (eqb-true _ _ f)) (λ f. makes-except (eqb-true _ _ e) (eqb-false _ _ f))) (λ e₄.
-    either P (eqb k 5) (λ e. makes-value (eqb-true _ _ e)) (λ e₅.
-    either P (eqb k 7) (λ e. makes-attribute (eqb-true _ _ e)) (λ e₆.
-    either P (eqb k 8) (λ e. makes-ref (eqb-true _ _ e)) (λ e₇.
-    either P (eqb k 9) (λ e. makes-oneOrMore (eqb-true _ _ e)) (λ e₈.
-    either P (eqb k 10) (λ e. makes-choice (eqb-true _ _ e)) (λ e₉.
-    either P (eqb k 11) (λ e. makes-group (eqb-true _ _ e)) (λ e₁₀.
-    either P (eqb k 12) (λ e. makes-interleave (eqb-true _ _ e)) (λ e₁₁. makes-none (no-kind k e₁ e₂ e₃ e₄ e₅ e₆ e₇ e₈ e₉ e₁₀ e₁₁))))))))))))
+    either P (eqb k kind.empty) (λ e. makes-empty (eqb-true _ _ e)) (λ e₁.
+    either P (eqb k kind.notAllowed) (λ e. makes-notAllowed (eqb-true _ _ e)) (λ e₂.
+    either P (eqb k kind.text) (λ e. makes-text (eqb-true _ _ e)) (λ e₃.
+    either P (eqb k kind.«data») (λ e. either P (eqb b kind.noRow) (λ f. makes-data (eqb-true _ _ e) (eqb-true _ _ f)) (λ f. makes-except (eqb-true _ _ e) (eqb-false _ _ f))) (λ e₄.
+    either P (eqb k kind.value) (λ e. makes-value (eqb-true _ _ e)) (λ e₅.
+    either P (eqb k kind.attribute) (λ e. makes-attribute (eqb-true _ _ e)) (λ e₆.
+    either P (eqb k kind.ref) (λ e. makes-ref (eqb-true _ _ e)) (λ e₇.
+    either P (eqb k kind.oneOrMore) (λ e. makes-oneOrMore (eqb-true _ _ e)) (λ e₈.
+    either P (eqb k kind.choice) (λ e. makes-choice (eqb-true _ _ e)) (λ e₉.
+    either P (eqb k kind.group) (λ e. makes-group (eqb-true _ _ e)) (λ e₁₀.
+    either P (eqb k kind.interleave) (λ e. makes-interleave (eqb-true _ _ e)) (λ e₁₁. makes-none (no-kind k e₁ e₂ e₃ e₄ e₅ e₆ e₇ e₈ e₉ e₁₀ e₁₁))))))))))))
 
 pub row-makes : (s : List ℕ) (p : ℕ) {x : Pattern} → patternOf s p ≡ x → Makes (kindOf s p) (aOf s p) (bOf s p) x
 row-makes s p e = subst (Makes (kindOf s p) (aOf s p) (bOf s p)) e (made (kindOf s p) (aOf s p) (bOf s p))

@@ -7,7 +7,7 @@ use borrow.Author.Needs.{needs}
 use Rattle.jobs.specs.Numbers.{hexBytes, hexValue}
 use Rattle.numbers.proofs.Digits.{value-is, no-value}
 use Rattle.lines.proofs.Stored.{Storing, storing-none, storing-more, storing-fails, storing-done, storing-size}
-use Rattle.lines.proofs.Pairs.{hex-odd, hex-end, hex-no-high, hex-no-low, hex-more, hex-small}
+use Rattle.lines.proofs.HexPairs.{hex-odd, hex-end, hex-no-high, hex-no-low, hex-more, hex-small}
 use Rattle.lines.proofs.hex_bytes.Statement.{statement}
 use Rattle.lines.proofs.hex_bytes.Tie as tie
 
