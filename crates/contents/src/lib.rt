@@ -38,14 +38,6 @@ pub fn attributes(instance: &[u32], e: u32) -> u32
     x
 }
 
-// The positions below n.
-pub fn below(n: u32) -> u64
-    requires { ⌜ n ≤ maxWidth ⌝ }
-    ensures { λ w. ⌜ Collects (λ _. true) n w ⌝ }
-{
-    (1u64 << n) - 1
-}
-
 // Row r becomes word n where it is a child of element e; how many children there are then, when there were n.
 fn add_child(instance: &[u32], e: u32, r: u32, n: u32, rows: &mut [u32]) -> u32
     requires { ⌜ n < maxNodes ⌝ }

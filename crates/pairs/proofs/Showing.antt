@@ -49,7 +49,7 @@ flag-same : {x : ℕ} (w : Bool) → (x ≡ 1) ↔ (w ≡ true) → eqb x 1 ≡ 
 flag-same {x} true f = eq-eqb x 1 (f .1 refl)
 flag-same {x} false f = ne-eqb x 1 (λ e. false≢true (f .0 e))
 
--- a word collects positions below its count
+-- a word collects positions before its count
 pub collects-low : {test : ℕ → Bool} {n w : ℕ} → Collects test n w → (x : ℕ) → bit w x ≡ true → (x < n) × (test x ≡ true)
 collects-low {test} {n} c x h = let i = sym (c .members x) ∙ h in (ltb-true x n (and-left (ltb x n) (test x) i), and-right (ltb x n) (test x) i)
 

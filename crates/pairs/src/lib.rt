@@ -261,7 +261,7 @@ fn pair_element(
     ensures { λ _. ⌜ ((T : StringTable) → Filling (tablesOf T (now (schema .entry)) (now (instance .entry))) (now (alone .entry)) (now (nothing .entry)) (now (blank .entry)) (now (pairs .entry)) (e + 1) → RowRight (tablesOf T (now (schema .entry)) (now (instance .entry))) (now (pairs .entry)) (now (pairs .exit)) e) ⌝ }
 {
     let attributes = contents::attributes(instance, e);
-    let a = contents::below(attributes);
+    let a = sets::up_to(attributes);
     let n = contents::children(instance, e, items);
     let texts = contents::of_kind(instance, items, n, instance::TEXT);
     let elements = contents::of_kind(instance, items, n, instance::ELEMENT);

@@ -30,7 +30,7 @@ not-added w k e = record { members = λ j. rw e (itself (bit w j) (eqb j k)) }
     itself false true = refl
     itself false false = refl
 
--- ---- the positions below n that pass a test
+-- ---- the positions before n that pass a test
 
 pub collects-none : (test : ℕ → Bool) → Collects test 0 0
 collects-none test = record { members = λ k. rw (bit-none k, le-ltb k 0 (omega arith)) }
@@ -54,7 +54,7 @@ collects-more {test} {n} {w} c e a = record { members = λ k. rw (a .members k, 
 pub collected : {test : ℕ → Bool} {n w k : ℕ} → Collects test n w → k < n → bit w k ≡ test k
 collected {n = n} {k = k} c h = rw (lt-ltb k n h) at (c .members k)
 
--- ---- all positions below n
+-- ---- all positions before n
 
 ones-odd : (m : ℕ) → 0 < m → (2 * m - 1) % 2 ≡ 1
 ones-odd m h = omega arith
@@ -80,5 +80,5 @@ with-true : (b : Bool) → b ≡ (b && true)
 with-true true = refl
 with-true false = refl
 
-pub collects-below : (n : ℕ) → n < positions → Collects (λ k. true) n ((1 * 2 ^ n) % 2 ^ 64 - 1)
-collects-below n h = record { members = λ k. rw (one-shl n h) (bit-ones n k ∙ with-true (ltb k n)) }
+pub collects-all : (n : ℕ) → n < positions → Collects (λ k. true) n ((1 * 2 ^ n) % 2 ^ 64 - 1)
+collects-all n h = record { members = λ k. rw (one-shl n h) (bit-ones n k ∙ with-true (ltb k n)) }

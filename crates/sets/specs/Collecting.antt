@@ -9,6 +9,6 @@ use Rattle.sets.specs.Bits.{bit}
 pub record MemberAdded (before k : ℕ) (said : Bool) (after : ℕ) : Type 0 where
   pub members : (j : ℕ) → bit after j ≡ (bit before j || (eqb j k && said))
 
--- w has the positions below n that pass a test
+-- w has the positions before n that pass a test
 pub record Collects (test : ℕ → Bool) (n w : ℕ) : Type 0 where
   pub members : (k : ℕ) → bit w k ≡ (ltb k n && test k)

@@ -1,4 +1,4 @@
--- The invariant: the positions below k that are of the kind are collected.
+-- The invariant: the positions before k that are of the kind are collected.
 use lib.Dec.{eqb}
 use borrow.Author.Needs.{needs}
 use Rattle.contents.specs.Contents.{ofKind}

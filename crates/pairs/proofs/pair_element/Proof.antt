@@ -14,8 +14,8 @@ attributes-requires c κs =
     let row = n .row in
     omega arith
 
-below-requires : tie.Need-below-requires
-below-requires c κs =
+up-to-requires : tie.Need-up-to-requires
+up-to-requires c κs =
     let q = c .before .before .before .before .before .before .before .before .before .before .before .before .before .before .pre in
     let n = q .1 in
     few-attributes (n .filling) (n .row) (q .2) (c .attributes .ensures)
@@ -65,7 +65,7 @@ pair-row-requires c κs =
     let rows = nodes-few (n .filling .pass) in
     let row = n .row in
     let room = n .room-items in
-    let known = know (n .filling) (n .row) (q .2) (c .before .before .before .before .before .before .before .before .before .before .before .before .before .before .before .before .before .before .before .before .before .before .before .before .before .attributes .ensures) (c .before .before .before .before .before .before .before .before .before .before .before .before .before .before .before .before .before .before .before .before .before .before .before .before .below .ensures) (omega arith) (c .before .before .before .before .before .before .before .before .before .before .before .before .before .before .before .before .before .before .before .before .before .before .children .ensures) (c .before .before .before .before .before .before .before .before .before .before .before .before .before .before .to-items .ensures) (c .before .before .before .before .before .before .before .before .before .before .before .before .before .before .before .before .before .before .of-kind .ensures) (c .before .before .before .before .before .before .before .before .before .before .before .before .before .before .before .before .of-kind2 .ensures) in
+    let known = know (n .filling) (n .row) (q .2) (c .before .before .before .before .before .before .before .before .before .before .before .before .before .before .before .before .before .before .before .before .before .before .before .before .before .attributes .ensures) (c .before .before .before .before .before .before .before .before .before .before .before .before .before .before .before .before .before .before .before .before .before .before .before .before .up-to .ensures) (omega arith) (c .before .before .before .before .before .before .before .before .before .before .before .before .before .before .before .before .before .before .before .before .before .before .children .ensures) (c .before .before .before .before .before .before .before .before .before .before .before .before .before .before .to-items .ensures) (c .before .before .before .before .before .before .before .before .before .before .before .before .before .before .before .before .before .before .of-kind .ensures) (c .before .before .before .before .before .before .before .before .before .before .before .before .before .before .before .before .of-kind2 .ensures) in
     let ready = c .before .before .before .before .before .before .before .before .before .before .content-of .ensures .ready _ _ _ _ _ _ _ known in
     (q .0, record { strings = n .strings; ready = rw (c .before .before .before .before .before .before .first-items .ensures) ready; element = q .2; room = n .room; row = omega arith }, q .3)
 
@@ -95,7 +95,7 @@ returns c = λ T f.
     let q = c .before .before .before .before .before .before .before .before .before .before .before .before .before .before .before .before .before .before .before .before .before .before .before .before .before .before .before .before .before .before .before .before .before .before .before .before .before .before .before .before .before .before .before .before .before .before .before .before .before .before .before .before .pre in
     let n = q .1 in
     let room = n .room-items in
-    let known = know f (n .row) (q .2) (c .before .before .before .before .before .before .before .before .before .before .before .before .before .before .before .before .before .before .before .before .before .before .before .before .before .before .before .before .before .before .before .before .before .before .before .before .before .before .attributes .ensures) (c .before .before .before .before .before .before .before .before .before .before .before .before .before .before .before .before .before .before .before .before .before .before .before .before .before .before .before .before .before .before .before .before .before .before .before .before .before .below .ensures) (omega arith) (c .before .before .before .before .before .before .before .before .before .before .before .before .before .before .before .before .before .before .before .before .before .before .before .before .before .before .before .before .before .before .before .before .before .before .before .children .ensures) (c .before .before .before .before .before .before .before .before .before .before .before .before .before .before .before .before .before .before .before .before .before .before .before .before .before .before .before .to-items .ensures) (c .before .before .before .before .before .before .before .before .before .before .before .before .before .before .before .before .before .before .before .before .before .before .before .before .before .before .before .before .before .before .before .of-kind .ensures) (c .before .before .before .before .before .before .before .before .before .before .before .before .before .before .before .before .before .before .before .before .before .before .before .before .before .before .before .before .before .of-kind2 .ensures) in
+    let known = know f (n .row) (q .2) (c .before .before .before .before .before .before .before .before .before .before .before .before .before .before .before .before .before .before .before .before .before .before .before .before .before .before .before .before .before .before .before .before .before .before .before .before .before .before .attributes .ensures) (c .before .before .before .before .before .before .before .before .before .before .before .before .before .before .before .before .before .before .before .before .before .before .before .before .before .before .before .before .before .before .before .before .before .before .before .before .before .up-to .ensures) (omega arith) (c .before .before .before .before .before .before .before .before .before .before .before .before .before .before .before .before .before .before .before .before .before .before .before .before .before .before .before .before .before .before .before .before .before .before .before .children .ensures) (c .before .before .before .before .before .before .before .before .before .before .before .before .before .before .before .before .before .before .before .before .before .before .before .before .before .before .before .to-items .ensures) (c .before .before .before .before .before .before .before .before .before .before .before .before .before .before .before .before .before .before .before .before .before .before .before .before .before .before .before .before .before .before .before .of-kind .ensures) (c .before .before .before .before .before .before .before .before .before .before .before .before .before .before .before .before .before .before .before .before .before .before .before .before .before .before .before .before .before .of-kind2 .ensures) in
     let ready = c .before .before .before .before .before .before .before .before .before .before .before .before .before .before .before .before .before .before .before .before .before .before .before .content-of .ensures .ready _ _ _ _ _ _ _ known in
     c .before .before .before .before .before .before .before .before .before .before .before .before .pair-row .ensures T (rw (c .before .before .before .before .before .before .before .before .before .before .before .before .before .before .before .before .before .before .before .first-items .ensures) ready)
 
@@ -104,7 +104,7 @@ pair-element-spec =
     tie.close
     (tie.spec
     attributes-requires
-    below-requires
+    up-to-requires
     children-requires
     of-kind-requires
     of-kind-requires-2
