@@ -1,4 +1,4 @@
--- The entries of a row from those of the rows below it.
+-- The entries of a row from those of the rows before it.
 use Prim.Native.Nat.{ℕ, zero, suc, _<_}
 use mathlib.Core.Path.{_≡_, refl, sym, _∙_, ap, ap₂}
 use mathlib.Core.List.{List, [], _∷_, nil≢cons, cons≢nil}

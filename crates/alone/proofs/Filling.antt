@@ -15,7 +15,7 @@ use Rattle.restrictions.specs.Schema.{SchemaPasses}
 use Rattle.alone.specs.Alone.{entry, TellsString, TellsNothing, Alone}
 use Rattle.alone.specs.Rows.{NothingAt, RowOf, RowMade}
 
--- the rows below p are right in any table that has their entries
+-- the rows before p are right in any table that has their entries
 alone-kept : {T : StringTable} {s before now nothing : List ℕ} {p : ℕ} → instanceStrings T ≤ maxStrings → ((i : ℕ) → i < p * maxStrings → getD now i 0 ≡ getD before i 0) → Alone T s before nothing p → Alone T s now nothing p
 alone-kept {T} {s} {before} {now} h f a = record {
   strings = λ t q k l m. subst (λ (v : ℕ). TellsString (tablesOf T s t) q k v) (sym (f (q * maxStrings + k) (omega arith))) (a .strings t q k l m);

@@ -32,7 +32,7 @@ TellsString J p k v = (v ≡ 1) ↔ Matches (lookups J) noAttributes (string (te
 abbrev pub TellsNothing : (J : Tables) (p v : ℕ) → Type 0
 TellsNothing J p v = (v ≡ 1) ↔ Matches (lookups J) noAttributes [] (patternOf (J .schema) p)
 
--- the entries of the rows below n, whatever the instance is
+-- the entries of the rows before n, whatever the instance is
 pub record Alone (T : StringTable) (s alone nothing : List ℕ) (n : ℕ) : Type 0 where
   pub strings : (t : List ℕ) (p k : ℕ) → p < n → k < instanceStrings T → TellsString (tablesOf T s t) p k (entry alone p k)
   pub empty : (t : List ℕ) (p : ℕ) → p < n → TellsNothing (tablesOf T s t) p (getD nothing p 0)

@@ -52,11 +52,11 @@ leadOf text = getD (trimStart text) 0 0
 abbrev pub LeadsTo : (T : StringTable) (leads : List ℕ) (n : ℕ) → Type 0
 LeadsTo T leads n = (k : ℕ) → k < n → getD leads k 0 ≡ leadOf (textOf T k)
 
--- the answer for the empty sequence at row p, where the rows below are right
+-- the answer for the empty sequence at row p, where the rows before it are right
 abbrev pub NothingAt : (s nothing : List ℕ) (p v : ℕ) → Type 0
 NothingAt s nothing p v = (T : StringTable) (t alone : List ℕ) → SchemaPasses (schemaStrings T) s → Alone T s alone nothing p → TellsNothing (tablesOf T s t) p v
 
--- the answer for string k at row p, where the rows below are right
+-- the answer for string k at row p, where the rows before it are right
 abbrev pub StringAt : (T : StringTable) (s alone nothing : List ℕ) (p k v : ℕ) → Type 0
 StringAt T s alone nothing p k v = (t : List ℕ) → SchemaPasses (schemaStrings T) s → Alone T s alone nothing p → k < instanceStrings T → TellsString (tablesOf T s t) p k v
 
@@ -66,6 +66,6 @@ pub record RowOf (f : ℕ → ℕ → Type 0) (before after : List ℕ) (p n : �
   pub kept : (i : ℕ) → i < p * maxStrings → getD after i 0 ≡ getD before i 0
   pub each : (k : ℕ) → k < n → f k (entry after p k)
 
--- the entries of row p are right, where those of the rows below are
+-- the entries of row p are right, where those of the rows before it are
 abbrev pub RowMade : (T : StringTable) (s before nothing after : List ℕ) (p : ℕ) → Type 0
 RowMade T s before nothing after p = SchemaPasses (schemaStrings T) s → Alone T s before nothing p → RowOf (λ k v. (t : List ℕ) → TellsString (tablesOf T s t) p k v) before after p (instanceStrings T)

@@ -64,7 +64,7 @@ fn same_value(datatype: u32, a: &[u8], b: &[u8]) -> u8
     0
 }
 
-// Whether the pattern at row p matches the empty sequence, by the rows below it.
+// Whether the pattern at row p matches the empty sequence, by the rows before it.
 fn nothing_at(schema: &[u32], nothing: &[u8], p: u32) -> u8
     ensures { λ r. ⌜ NothingAt (now (schema .entry)) (now (nothing .entry)) p r ⌝ }
 {

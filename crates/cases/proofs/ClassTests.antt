@@ -17,7 +17,7 @@ use Rattle.classes.proofs.SmallNames.{small-name}
 use Rattle.tables.proofs.Booleans.{or-either, and-left, and-right, both-and}
 use Rattle.cases.proofs.Tests.{everyBelow, every-below, someBelow, some-below, below-some, no-of}
 
--- the numbers of small names are below this
+-- the numbers of small names are less than this
 abbrev bound : ℕ → ℕ
 bound strings = suc (suc strings)
 

@@ -21,7 +21,7 @@ module _ (s : List ℕ) where
   abbrev typeIf : Bool → (ℕ → ℕ) → ℕ → ℕ
   typeIf named types q = elim named [ true ↦ types q | false ↦ noType ]
 
-  -- the content type of a row below n, noType where it has none
+  -- the content type of a row before n, noType where it has none
   unfoldable pub typeBelow : ℕ → ℕ → ℕ
   typeBelow zero r = noType
   typeBelow (suc n) r = typeBy (kindOf s r) (bOf s r) (typeIf (namesA s r) (typeBelow n) (childA s r)) (typeIf (namesB s r) (typeBelow n) (childB s r))

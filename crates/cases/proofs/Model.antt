@@ -45,7 +45,7 @@ stringTest rec A q s = rec (λ k. string s) A all q 0 1
 abbrev pub nothingTest : Test → Attributes → ℕ → Bool
 nothingTest rec A q = rec (λ k. string []) A all q 0 0
 
--- attributes are rows below N
+-- attributes are rows before N
 module _ (N : ℕ) where
   abbrev pub freeTest : Attributes → Bool
   freeTest A = not (someBelow A N)
@@ -96,7 +96,7 @@ module _ (L : Lookups) (N : ℕ) (equal : ℕ → List ℕ → List ℕ → Bool
       elim (rec it (A ∩ names L n p) (K ∩ takers L n it p) p i j) [ true ↦ rec it (A ∖ names L n p) (K ∖ takers L n it p) q i j | false ↦ false ]
   kindTest rec n it A K i j noPattern = false
 
-  -- rows below n
+  -- rows before n
   unfoldable pub spanTest : ℕ → Test
   spanTest zero it A K p i j = false
   spanTest (suc n) it A K p i j = elim (ltb j i) [ true ↦ false | false ↦ kindTest (spanTest n) n it A K i j (L .pattern p) ]

@@ -48,7 +48,7 @@ module _ (L : Lookups) (R : Restricted L) (N : ℕ) (equal : ℕ → List ℕ �
     pub clean : CleanAt L it K
     pub known : (k e d : ℕ) → it k ≡ element e → (pair e d ≡ true) ↔ Paired L Not e d
 
-  -- and what it answers, for rows below n
+  -- and what it answers, for rows before n
   abbrev pub Decided : ℕ → Test → Type 0
   Decided n rec = (it : ℕ → Item) (A : Attributes) (K : ℕ → Bool) (p i j : ℕ) → p < n → Fits it A K → (rec it A K p i j ≡ true) ↔ SpanOf it A K p i j
 

@@ -69,7 +69,7 @@ test-operand t (interleave p q) h = one-of t p q interleave-first interleave-sec
 test-operand t noPattern h = absurd (false≢true h)
 
 module _ (L : Lookups) (test : Pattern → Bool) where
-  -- the pattern at row p, which is below n, is or reaches one that passes
+  -- the pattern at row p, which is before n, is or reaches one that passes
   unfoldable pub reachTest : ℕ → ℕ → Bool
   reachTest zero p = false
   reachTest (suc n) p = elim (test (L .pattern p)) [ true ↦ true | false ↦ operandTest (reachTest n) (L .pattern p) ]

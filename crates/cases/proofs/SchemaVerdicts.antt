@@ -51,7 +51,7 @@ module _ (T : StringTable) (s : List ℕ) where
   abbrev placed : Bool
   placed = tablesTest && (placesTest s && pathTests)
 
-  -- nor do the codes up to 6, to 7 and to 8, the last of them below row n
+  -- nor do the codes up to 6, to 7 and to 8, the last of them before row n
   abbrev sequenced : ℕ → Bool
   sequenced n = placed && everyBelow noClash n
 
@@ -94,7 +94,7 @@ module _ (T : StringTable) (s : List ℕ) where
       (goes-on (names-right s right (and-left (namesTest s) (pathsTest s) paths))
       (goes-on (paths-right s right (and-right (namesTest s) (pathsTest s) paths)) rest))))
 
-  -- what a test of each row below n shows of a code
+  -- what a test of each row before n shows of a code
   no-clash : placed ≡ true → (n : ℕ) → everyBelow noClash n ≡ true → Clear (SequenceFault s) n
   no-clash pass n e r h f = go (clashTest s r) (clash-test s (right-size (rows-pass pass)) r) (every-below noClash n e r h)
     where

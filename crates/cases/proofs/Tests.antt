@@ -1,4 +1,4 @@
--- Tests of all or some numbers below a bound, and what they show.
+-- Tests of all or some numbers less than a bound, and what they show.
 use Prim.Native.Nat.{ℕ, zero, suc, _<_}
 use mathlib.Core.Path.{_≡_, refl, sym, _∙_, ap}
 use mathlib.Core.Bool.{Bool, true, false, not, false≢true, true≢false}

@@ -34,7 +34,7 @@ module _ (xs : List ℕ) (n x : ℕ) where
   pub listed-last : n < length xs → Among (set xs n x) (n + 1) x
   listed-last h = record { at = n; before = omega arith; is = getD-set-same xs n x 0 h }
 
--- f takes the value x below n
+-- f takes the value x before n
 record Taken (f : ℕ → ℕ) (n x : ℕ) : Type 0 where
   at : ℕ
   before : at < n
@@ -63,7 +63,7 @@ crowded (suc n) f h = crowded n moved taken
             pick (no e) (no g) =
                 record { at = t .at; before = omega (arith, t .before); is = rw (ne-eqb (t .at) (top .at) e) (t .is) }
 
--- if each number from one on and below another is among the first n, then these are no more than n
+-- if each number from one on and before another is among the first n, then these are no more than n
 pub few : (xs : List ℕ) (n from x : ℕ) → ((v : ℕ) → from ≤ v → v < x → Among xs n v) → x ≤ from + n
 few xs n from x h = go (decLt (from + n) x)
   where

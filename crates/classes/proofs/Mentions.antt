@@ -42,7 +42,7 @@ module _ (s m : List ℕ) (part : NamePart) (r : ℕ) (xs : List ℕ) (n : ℕ) 
       last : (v : ℕ) → Of x ≡ Of v → Among (set xs n x) (n + 1) v
       last v e = let g : x ≡ v = cc in subst (λ (w : ℕ). Among (set xs n x) (n + 1) w) g (listed-last xs n x h)
 
--- the rows below r
+-- the rows before r
 pub record Mentioning (s m : List ℕ) (part : NamePart) (xs : List ℕ) (n r : ℕ) : Type 0 where
   pub size : length xs ≡ markedRows + 1
   pub most : n ≤ r

@@ -45,7 +45,7 @@ module _ (s : List ℕ) (c k : ℕ) where
   child-b f e l h = by-b (rw e (f (bOf s c) ∙ rw (lt-ltb (bOf s c) c l, h))) refl
 
 module _ (s m : List ℕ) (u l u′ l′ : ℕ) where
-  -- a field of row c, by what the classes below hold
+  -- a field of row c, by what the classes at smaller rows hold
   below : (c x : ℕ) → (x < c → Marked m x → holds s u l x ≡ holds s u′ l′ x) → (x < c → isClass (sortOf s x) ≡ true → Marked m x) → upto (step s u l) c x ≡ upto (step s u′ l′) c x
   unfolding holds
   below c x same marked = go (decLt x c) (isClass (sortOf s x)) refl

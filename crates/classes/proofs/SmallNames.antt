@@ -27,7 +27,7 @@ use Rattle.classes.specs.declared.NamePart.the-variants.{Namespace, Loca
 use Rattle.classes.proofs.Holds.{holds-other}
 use Rattle.classes.proofs.SmallModel.{Alike, same-in-class}
 
--- v is not above u, and no number below n tells them apart
+-- v is not above u, and no number before n tells them apart
 record Near (n u v : ℕ) : Type 0 where
   low : v ≤ suc n
   most : v ≤ u

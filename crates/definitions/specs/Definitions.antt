@@ -9,7 +9,7 @@ use Rattle.schema.specs.Rows.{rowsOf, sortOf, isElement}
 abbrev pub isDefinition : List ℕ → ℕ → Bool
 isDefinition s d = isElement (sortOf s d)
 
--- the first n words are the definitions among the rows below m; of the words from n on nothing is said
+-- the first n words are the definitions among the rows before m; of the words from n on nothing is said
 pub record DefinitionsBelow (s words : List ℕ) (n m : ℕ) : Type 0 where
   pub few : n ≤ m
   pub rows : (k : ℕ) → k < n → getD words k 0 < m

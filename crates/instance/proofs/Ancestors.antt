@@ -1,4 +1,4 @@
--- Where the parents of the rows below r come before them, an ancestor comes before its descendants.
+-- Where the parents of the rows before r come before them, an ancestor comes before its descendants.
 use mathlib.Core.Path.{_≡_, refl, sym, _∙_, ap, subst}
 use mathlib.Core.Logic.{_≢_}
 use mathlib.Core.Bool.{Bool, true, false}

@@ -99,7 +99,7 @@ module _ {strings : ℕ} {t : List ℕ} (right : NodesRight strings t) where
   pub parent-less : (r : ℕ) → 0 < r → r < nodesOf t → parentOf t r < r
   parent-less r h l = rooted .before r h l
 
-  -- an ancestor of an element is one, where the parents of the rows below n are
+  -- an ancestor of an element is one, where the parents of the rows before n are
   up-elements : {n q e : ℕ} → n ≤ nodesOf t → ((x : ℕ) → 0 < x → x < n → kindOf t (parentOf t x) ≡ element) → q ≢ noParent → SelfOrAncestor t q e → e < n → kindOf t e ≡ element → kindOf t q ≡ element
   up-elements m below f itself h k = k
   up-elements {n} {q} {e} m below f (above g u) h k = go (decLt 0 e) (λ l. up-elements m below f u l)

@@ -48,7 +48,7 @@ module _ (test : ℕ → Bool) where
   selects-one {b = b} m e (no-more f) = next m (omega arith) f e (selects-none (suc b) (suc b) (omega arith))
   selects-one m e (next h l f p s) = next h (omega arith) f p (selects-one l e s)
 
-  -- the rows below n
+  -- the rows before n
   pub selects-rows : (n : ℕ) → Selects test n 0 (rowsWhere test n)
   unfolding rowsWhere
   selects-rows zero = selects-none 0 0 (omega arith)

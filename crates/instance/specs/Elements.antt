@@ -5,7 +5,7 @@ use mathlib.Core.List.{List, [], _∷_, _++_}
 use lib.Dec.{eqb}
 use Rattle.instance.specs.Nodes.{element, nodesOf, kindOf, isChild, isAttribute}
 
--- the rows below n that pass a test, in order
+-- the rows before n that pass a test, in order
 unfoldable pub rowsWhere : (ℕ → Bool) → ℕ → List ℕ
 rowsWhere test zero = []
 rowsWhere test (suc n) = rowsWhere test n ++ cond (test n) (n ∷ []) []

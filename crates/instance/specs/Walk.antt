@@ -1,4 +1,4 @@
--- What is known of the rows below r while the rows are checked in order; cited by private functions only.
+-- What is known of the rows before r while the rows are checked in order; cited by private functions only.
 use Prim.Native.Nat.{ℕ, _<_, _≤_}
 use mathlib.Core.Path.{_≡_}
 use mathlib.Core.Bool.{Bool, true, false}
@@ -15,7 +15,7 @@ pub record Rooted (t : List ℕ) (r : ℕ) : Type 0 where
   pub root-parent : 0 < r → parentOf t 0 ≡ noParent
   pub before : (q : ℕ) → 0 < q → q < r → parentOf t q < q
 
--- k is the kind of the last child of e below row r, and 0 where e has none
+-- k is the kind of the last child of e before row r, and 0 where e has none
 pub data LastChild (t : List ℕ) (e r k : ℕ) : Type 0 where
   no-child : k ≡ 0 → ((q : ℕ) → q < r → isChild t e q ≡ false) → LastChild t e r k
   child-at : (q : ℕ) → q < r → isChild t e q ≡ true → kindOf t q ≡ k → ((x : ℕ) → q < x → x < r → isChild t e x ≡ false) → LastChild t e r k
@@ -31,7 +31,7 @@ Twin t p q r = (isAttribute t p q ≡ true) × SameName t q r
 pub data RepeatsName (t : List ℕ) (p r : ℕ) : Type 0 where
   repeats : (q : ℕ) → p < q → q < r → Twin t p q r → RepeatsName t p r
 
--- row r has the right parent, and the rows below it are known
+-- row r has the right parent, and the rows before it are known
 pub record Placed (t last : List ℕ) (r : ℕ) : Type 0 where
   pub few : r < maxNodes
   pub rooted : Rooted t r

@@ -22,8 +22,8 @@ use Rattle.occurrences.specs.declared.Wanted.the-variants.{Text, Attribu
 
 module _ (s : List ℕ) (r : ℕ) where
   -- the kind of an attribute is no group or interleave
-  unpaired : kindOf s r ≡ kind.attribute → sharingKind (kindOf s r) ≡ true → ⊥
-  unpaired e p = false≢true (sym (ap sharingKind e) ∙ p)
+  not-sharing : kindOf s r ≡ kind.attribute → sharingKind (kindOf s r) ≡ true → ⊥
+  not-sharing e p = false≢true (sym (ap sharingKind e) ∙ p)
 
   -- attributes on the two sides of a group or interleave
   pub sharing-decides : sharingKind (kindOf s r) ≡ true → (x : Bool) → Decides (Somewhere s (Suits s (AttributeMeeting (childB s r))) (childA s r)) x → Decides (AttributeFault s r) x
@@ -34,7 +34,7 @@ module _ (s : List ℕ) (r : ℕ) where
 
       from : AttributeFault s r → Somewhere s (Suits s (AttributeMeeting (childB s r))) (childA s r)
       from (duplicate x y u l q o k o′ k′ c) = (x, o, (k, (y, o′, (k′, (u, l, c)))))
-      from (not-repeated k i n) = absurd (unpaired k p)
+      from (not-repeated k i n) = absurd (not-sharing k p)
 
   -- another row that is no attribute
   pub no-attribute-fault : sharingKind (kindOf s r) ≡ false → (kindOf s r ≡ kind.attribute → ⊥) → ¬ AttributeFault s r
@@ -44,7 +44,7 @@ module _ (s : List ℕ) (r : ℕ) where
   module _ {repeated : List ℕ} (marks : MarksExactly (Under s (HasKind s kind.oneOrMore)) repeated) (e : kindOf s r ≡ kind.attribute) where
     -- an attribute below a oneOrMore may have any class
     pub repeated-right : Marked repeated r → ¬ AttributeFault s r
-    repeated-right m (duplicate x y u l q o k o′ k′ c) = unpaired e q
+    repeated-right m (duplicate x y u l q o k o′ k′ c) = not-sharing e q
     repeated-right m (not-repeated k i n) = let under = marks .sound r m in n (under .row) (under .source) (under .below)
 
     -- another may not have an infinite one
@@ -55,7 +55,7 @@ module _ (s : List ℕ) (r : ℕ) where
         to i = not-repeated e i (λ p k b. n (marks .complete r (record { row = p; source = k; below = b })))
 
         from : AttributeFault s r → Infinite s (childA s r)
-        from (duplicate x y u l q o k o′ k′ c) = absurd (unpaired e q)
+        from (duplicate x y u l q o k o′ k′ c) = absurd (not-sharing e q)
         from (not-repeated k i m) = i
 
   -- only an interleave can break a restriction on interleave

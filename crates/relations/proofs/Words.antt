@@ -59,7 +59,7 @@ room-front r = record { few = r .few; room = omega (arith, r .room) }
 
 -- ---- the words from m on
 
--- a store below m keeps them
+-- a store before m keeps them
 rest-set : {m : ℕ} {w₀ w : List ℕ} {i : ℕ} (v : ℕ) → Rest m w₀ w → i < m → Rest m w₀ (set w i v)
 rest-set {m} {w = w} {i = i} v g h = record { size = length-set w i v ∙ g .size; past = drop-set-lt m w i v h ∙ g .past }
 

@@ -69,7 +69,7 @@ abbrev pub commonName : Found → CommonName
 commonName (Name namespace local) = Least namespace local
 commonName Nothing = None
 
--- the answer where no code below 12 refuses
+-- the answer where no code before 12 refuses
 abbrev pub matchAnswer : Answer → MatchAnswer
 matchAnswer (answer.Valid pairs) = matches.Valid pairs
 matchAnswer (answer.NotValid pairs) = matches.NotValid pairs

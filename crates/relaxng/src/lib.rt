@@ -140,7 +140,7 @@ pub fn verdict(bytes: &[u8], ends: &[u32], schema: &[u32], instance: &[u32]) -> 
     }
 }
 
-// The answer with the match list, where no code below 12 refuses: a list that is too short has code 12 at 0.
+// The answer with the match list, where no code before 12 refuses: a list that is too short has code 12 at 0.
 fn matches_of(answer: Answer) -> MatchAnswer
     ensures { λ r. ⌜ r ≡ matchAnswer answer ⌝ }
 {

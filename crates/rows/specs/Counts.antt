@@ -5,7 +5,7 @@ use mathlib.Core.List.{List}
 use lib.ListN.{length, getD}
 use Rattle.schema.specs.RowRule.{maxRows, isRow, usesBefore}
 
--- for each row its uses by the rows below n
+-- for each row its uses by the rows before n
 pub record Counts (s counts : List ℕ) (n : ℕ) : Type 0 where
   pub size : length counts ≡ maxRows
   pub uses : (r : ℕ) → r < maxRows → getD counts r 0 ≡ usesBefore s r n

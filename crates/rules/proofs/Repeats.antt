@@ -105,7 +105,7 @@ module _ (L : Lookups) where
           alone (inl e) = cast L NotMatch (fun-ext (λ x. sym (or-false (eqb y x)))) (sym e) (oneOrMore-1 (s y h))
           alone (inr c) = oneOrMore-2 (s y h) c (λ x y e f. absurd (false≢true f))
 
-      -- of a set below N
+      -- of a set of rows before N
       abbrev Joined : List Item → ℕ → Attributes → Type 0
       Joined m N A = ((x : ℕ) → A x ≡ true → x < N) → Distinct L A → Singles A → (A ≡ noAttributes) ⊎ Match L NotMatch A m (pattern.oneOrMore q)
 

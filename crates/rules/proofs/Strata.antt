@@ -13,7 +13,7 @@ use Rattle.rules.specs.Reach.{Subpattern, operand, choice-first, choice-
 use Rattle.rules.specs.Restricted.{Restricted, Plain, plain-value, plain-data, plain-except, plain-choice}
 
 module _ {L : Lookups} (R : Restricted L) where
-  -- a match of a plain pattern whose parts are below b uses negative premises at plain rows below b alone
+  -- a match of a plain pattern whose parts are before b uses negative premises at plain rows before b alone
   change :
       (N M : List ℕ → ℕ → Type 0) (b : ℕ) → ((s : List ℕ) (r : ℕ) → Plain L (L .pattern r) → r < b → N s r → M s r)
       → {a : Attributes} {m : List Item} {x : Pattern} → Plain L x → ((q : ℕ) → Subpattern q x → q < b) → Match L N a m x → Match L M a m x

@@ -3,7 +3,7 @@ use Prim.Native.Nat.{ℕ, zero, suc}
 use mathlib.Core.Bool.{Bool, false, cond}
 use lib.Dec.{eqb}
 
--- for k below n, step at k, handed the answers for the rows below k
+-- for k before n, step at k, handed the answers for the rows before k
 unfoldable pub upto : (ℕ → (ℕ → Bool) → Bool) → ℕ → ℕ → Bool
 upto step zero k = false
 upto step (suc n) k = cond (eqb k n) (step n (upto step n)) (upto step n k)

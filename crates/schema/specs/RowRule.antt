@@ -28,7 +28,7 @@ fieldRight strings s p Datatype x = ltb x 2
 fieldRight strings s p StringNumber x = ltb x strings
 fieldRight strings s p Local x = ltb 0 x && ltb x strings
 
--- how often row r is a child of a row below n; both fields of a row count
+-- how often row r is a child of a row before n; both fields of a row count
 abbrev pub isRow : ℕ → ℕ → ℕ
 isRow r x = cond (eqb x r) 1 0
 

@@ -48,7 +48,7 @@ pub record TypeIs (s : List ℕ) (r t : ℕ) : Type 0 where
   pub has : typed t ≡ true → HasType s r t
   pub only : (c : ℕ) → HasType s r c → c ≡ t
 
--- the types of the rows below n
+-- the types of the rows before n
 pub record Types (s types : List ℕ) (n : ℕ) : Type 0 where
   pub size : length types ≡ maxRows
   pub known : (r : ℕ) → r < n → TypeIs s r (getD types r 0)

@@ -1,4 +1,4 @@
--- The rows below p are right.
+-- The rows before p are right.
 use Prim.Native.Nat.{ℕ, _-_, _≤_}
 use Rattle.tables.specs.Tables.{stringTable}
 use Rattle.alone.proofs.Filling.{rows-none, rows-more}

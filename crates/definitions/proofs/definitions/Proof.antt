@@ -1,4 +1,4 @@
--- The invariant: the first n words are the definitions among the rows below d.
+-- The invariant: the first n words are the definitions among the rows before d.
 use Prim.Native.Nat.{_-_, _≤_}
 use mathlib.Core.Path.{_≡_, refl, _∙_}
 use native.Mathlib.Omega.{arith}

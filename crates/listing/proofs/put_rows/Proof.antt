@@ -1,4 +1,4 @@
--- The marked pairs of the rows below e are put.
+-- The marked pairs of the rows before e are put.
 use Prim.Native.Nat.{_*_, _-_, _≤_}
 use Rattle.listing.proofs.Putting.{put-as, put-none, put-length, no-rows, rows-more}
 use Rattle.listing.proofs.put_rows.Statement.{statement}

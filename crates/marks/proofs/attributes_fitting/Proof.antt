@@ -1,4 +1,4 @@
--- The invariant: the set has the attributes below x whose values fit.
+-- The invariant: the set has the attributes before x whose values fit.
 use Prim.Native.Nat.{_-_, _≤_}
 use Rattle.sets.proofs.Collecting.{collects-none, collects-more}
 use Rattle.marks.proofs.attributes_fitting.Statement.{statement}

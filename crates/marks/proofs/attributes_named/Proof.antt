@@ -1,4 +1,4 @@
--- The invariant: the set has the attributes below x that are named.
+-- The invariant: the set has the attributes before x that are named.
 use Prim.Native.Nat.{_-_, _≤_}
 use Rattle.sets.proofs.Collecting.{collects-none, collects-more}
 use Rattle.marks.proofs.attributes_named.Statement.{statement}

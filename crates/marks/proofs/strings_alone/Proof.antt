@@ -1,4 +1,4 @@
--- The invariant: the set has the strings below k that match alone.
+-- The invariant: the set has the strings before k that match alone.
 use Prim.Native.Nat.{_-_, _≤_}
 use Rattle.sets.proofs.Collecting.{collects-none, collects-more}
 use Rattle.marks.proofs.strings_alone.Statement.{statement}

@@ -1,4 +1,4 @@
--- Classes that the table has share no name, and a pair that shares none is added.
+-- Classes that the table has share no name, and two that share none are added.
 use mathlib.Core.Path.{sym, _∙_}
 use native.Mathlib.Omega.{arith}
 use borrow.Author.Needs.{needs}
