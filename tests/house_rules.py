@@ -1,11 +1,11 @@
 #!/usr/bin/env python3
 """Rules of the repository that the prover does not see. Each rule is tried at each place that it speaks of.
 
-A test file that tests/parts.txt does not list, a public function without a promise in docs/PROMISES.md or with one that
-holds under a premise, a call of a user with a `requires`, a function without an `ensures`, a long function or proof
-file, a kind of a schema row as a bare number, a definition or a contract that rests on a proof, a wrong answer that no
-promise names or that a promise names in vain, a crate without a line in the map or in the times, a hole or an axiom in a
-proof, a name of the library with another meaning.
+A test file that tests/parts.txt does not list, a dependency in crates.txt that is not direct, a public function without
+a promise in docs/PROMISES.md or with one that holds under a premise, a call of a user with a `requires`, a function
+without an `ensures`, a long function or proof file, a kind of a schema row as a bare number, a definition or a contract
+that rests on a proof, a wrong answer that no promise names or that a promise names in vain, a crate without a line in
+the map or in the times, a hole or an axiom in a proof, a name of the library with another meaning.
 """
 import glob
 import os
@@ -33,18 +33,27 @@ def read(path):
 promises = read("docs/PROMISES.md")
 architecture = read("docs/ARCHITECTURE.md")
 times = read("docs/CHECK-TIMES.md")
-crates = [
-    line.split(":")[0].strip()
-    for line in read("crates.txt").splitlines()
-    if line.strip() and not line.startswith("#")
-]
+lists = dict(line.split(":") for line in read("crates.txt").splitlines() if line.strip() and not line.startswith("#"))
+crates = list(lists)
 
 listed = read("tests/parts.txt").split()
 present = {os.path.basename(p) for p in glob.glob("tests/*.rs") + glob.glob("tests/*.py")}
 for name in sorted(present | set(listed)):
     hold(name in present and listed.count(name) == 1, f"tests/parts.txt and the file tests/{name}")
 
+KIT = ["io", "os", "libc", "bytes", "check"]
+
+
+def named_by(crate):
+    """The crates that the files of a crate name."""
+    files = glob.glob(f"crates/{crate}/**/*.antt", recursive=True) + glob.glob(f"crates/{crate}/src/*.rt")
+    text = "\n".join(re.sub(r"(--|//).*", "", read(path)) for path in files)
+    return {c for c in crates + KIT if c != crate and re.search(rf"Rattle.{c}[.·]|(?<![\w:.]){c}::", text)}
+
+
 for crate in crates:
+    named = named_by(crate)
+    hold(set(lists[crate].split()) == named, f"crates.txt: {crate} depends on {' '.join(sorted(named))} and no other")
     hold(f"`{crate}`" in architecture, f"crate {crate} in docs/ARCHITECTURE.md")
     hold(f"| `{crate}` |" in times, f"crate {crate} in docs/CHECK-TIMES.md")
 
@@ -64,7 +73,8 @@ called = set()
 
 # Names of the library, which no definition and no parameter gives another meaning.
 OPERATORS = "_≡_ _<_ _≤_ _≢_ _++_ _&&_ _||_"
-LIBRARY = set(f"{OPERATORS} length take drop getD set replicate not cond map true false List Bool ℕ".split())
+FUNCTIONS = "length take drop getD set replicate not cond map"
+LIBRARY = set(f"{OPERATORS} {FUNCTIONS} true false none some List Bool Option ℕ".split())
 
 # A kind of a schema row by its number: in an arm of a `match`, or in a comparison.
 KIND = r"(?:schema::kind\([^{}]*?\)|kind)"
@@ -108,7 +118,7 @@ for path in sorted(glob.glob("crates/*/src/*.rt")):
 for place in sorted(CALLS):
     hold(place in called, f"{place} is there")
 
-CONSTRUCTORS = {"true", "false"}
+CONSTRUCTORS = {"true", "false", "none", "some"}
 # What is defined, with constructors and fields; what is bound before a `:`, after λ or `let`, and by a clause.
 DEFINED = re.compile(r"^ *(?:unfoldable )?(?:abbrev )?(?:pub )?(?:(?:record|data) (\S+)|(\S+) :(?= |$))", re.M)
 TYPED = re.compile(r"[({]([^(){}:=]+) : ")
@@ -119,7 +129,8 @@ CLAUSE = re.compile(r"^ *\S+ ([^=:]*)=(?: |$)", re.M)
 
 def renamed(text):
     """The names of the library that a file of definitions gives another meaning."""
-    names = {n for pair in DEFINED.findall(text) for n in pair} | {n for part in TYPED.findall(text) for n in part.split()}
+    names = {n for pair in DEFINED.findall(text) for n in pair}
+    names |= {n for part in TYPED.findall(text) for n in part.split()}
     names |= {n for pair in BOUND.findall(text) for part in pair for n in NAME.findall(re.sub(r":[^)]*", "", part))}
     names |= {n for part in CLAUSE.findall(text) for n in NAME.findall(part)} - CONSTRUCTORS
     return sorted(names & LIBRARY)
@@ -134,7 +145,8 @@ for path in sorted(glob.glob("crates/**/*.antt", recursive=True)):
         hold(".proofs." not in text, f"{path} cites no proof")
         hold(not renamed(text), f"{path} gives no name of the library another meaning: {renamed(text)}")
 
-labels = [label for path in sorted(glob.glob("crates/*/must-fail/*.edit")) for label in re.findall(r"^label: (.*)$", read(path), re.M)]
+edits = "".join(read(path) for path in glob.glob("crates/*/must-fail/*.edit"))
+labels = re.findall(r"^label: (.*)$", edits, re.M)
 for label in sorted(set(labels) | set(re.findall(r"\(`([a-z0-9_]+)`\)", promises))):
     hold(f"(`{label}`)" in promises and labels.count(label) == 1, f"wrong answer {label} and docs/PROMISES.md")
 
