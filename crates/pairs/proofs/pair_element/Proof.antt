@@ -18,7 +18,8 @@ up-to-requires : tie.Need-up-to-requires
 up-to-requires c κs =
     let q = c .before .before .before .before .before .before .before .before .before .before .before .before .before .before .pre in
     let n = q .1 in
-    few-attributes (n .filling) (n .row) (q .2) (c .attributes .ensures)
+    let few = few-attributes (n .filling) (n .row) (q .2) (c .attributes .ensures) in
+    omega arith
 
 children-requires : tie.Need-children-requires
 children-requires c κs = let n = c .before .before .before .before .before .before .before .before .before .before .before .before .before .before .before .before .pre .1 in record { strings = _; right = n .filling .pass .nodes; row = n .row }
