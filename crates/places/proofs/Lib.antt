@@ -1,2 +1,4 @@
+pub mod Faults
 pub mod Marks
+pub mod Places
 pub mod Sweep

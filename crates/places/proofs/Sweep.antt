@@ -23,7 +23,8 @@ unfolding shapeOf
 childless {s} {p} e (by-a n f) = false≢true (rw e at n)
 childless {s} {p} e (by-b n f) = false≢true (rw e at n)
 
--- no row from n on has a kind; a row may lack fields at the end of the table, so that n can be one more than the number of rows
+-- no row from n on has a kind; a row may lack fields at the end of the table, so that n can be one more than the number
+-- of rows
 pub record RowEnd (s : List ℕ) (n : ℕ) : Type 0 where
   pub few : n ≤ suc maxRows
   pub past : (p : ℕ) → n ≤ p → kindOf s p ≡ 0

@@ -11,15 +11,15 @@ pub fn check_schema(strings: usize, schema: &[u32]) -> Verdict
     let Checked::Fine = rows else {
         return tables::refusal(2, rows);
     };
-    let places = misplaced::check_places(schema);
+    let places = places::check_places(schema);
     let Checked::Fine = places else {
         return tables::refusal(3, places);
     };
-    let names = prohibited::check_names(schema);
+    let names = places::check_names(schema);
     let Checked::Fine = names else {
         return tables::refusal(4, names);
     };
-    let paths = prohibited::check_paths(schema);
+    let paths = places::check_paths(schema);
     let Checked::Fine = paths else {
         return tables::refusal(5, paths);
     };

@@ -1,4 +1,4 @@
--- A row of the kind; a pair that the table marks.
+-- A row of the kind; a group or interleave that the table marks.
 use mathlib.Core.Bool.{true≢false}
 use mathlib.Core.Path.{sym, _∙_}
 use borrow.Author.Needs.{needs}

@@ -1,4 +1,5 @@
--- The invariant: the rows marked are the children of rows from p on that are sources or below one. When p is passed its own mark is final, since its parents are larger.
+-- The invariant: the rows marked are the children of rows from p on that are sources or below one. When p is passed its
+-- own mark is final, since its parents are larger.
 use Prim.Native.Nat.{suc, _≤_}
 use mathlib.Core.Path.{_≡_}
 use native.Mathlib.Omega.{arith}
