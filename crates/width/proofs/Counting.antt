@@ -1,70 +1,51 @@
 -- Counting the rows that belong to each element, and the elements that are too wide.
-use mathlib.Core.Path.{_≡_, refl, sym, _∙_, ap}
-use mathlib.Core.Bool.{Bool, true, false, cond, _&&_, _||_}
+use mathlib.Core.Path.{_≡_, refl, _∙_, ap}
+use mathlib.Core.Bool.{Bool, true, false, cond, _&&_, _||_, and-comm}
 use mathlib.Core.List.{List}
 use Prim.Native.Nat.{ℕ, zero, suc, _+_, _≤_, _<_}
 use native.Mathlib.Omega.{arith}
 use native.Mathlib.Numerals.{add-one}
-use native.Mathlib.Decide.{decLt, ℕ-discrete}
 use lib.Dec.{eqb, ltb}
-use lib.ListN.{length, getD, set, length-set, length-replicate, List·getD-eq-default}
-use lib.Seq.{getD-set-same, getD-set-other}
-use borrow.Author.Tests.{eq-eqb, ne-eqb, eqb-true, eqb-false, ltb-true, ltb-false}
+use lib.ListN.{length, getD, length-replicate}
+use borrow.Author.Tests.{eqb-true, eqb-false, ltb-true, ltb-false}
 use Rattle.tables.specs.Answers.{Decides}
+use Rattle.tables.specs.Counting.{counted}
 use Rattle.tables.specs.Outputs.{zeros}
+use Rattle.tables.proofs.Counting.{length-counted, getD-counted, low-everywhere}
 use Rattle.tables.proofs.Fill.{getD-zeros}
+use Rattle.tables.proofs.Numbers.{one-or-none}
 use Rattle.instance.specs.Nodes.{element, nodesOf, kindOf, isChild, isAttribute}
 use Rattle.instance.specs.NodeRule.{maxNodes}
 use Rattle.instance.specs.Width.{maxWidth, howMany, WidthFault, many-attributes, many-children}
-use Rattle.width.specs.Counts.{Counts, Low, Added}
-
-one-at-most : (b : Bool) → cond b 1 0 ≤ 1
-one-at-most true = omega arith
-one-at-most false = omega arith
+use Rattle.width.specs.Counts.{RowsCounted}
 
 few : (test : ℕ → Bool) (n : ℕ) → howMany test n ≤ n
 unfolding howMany
 few test zero = omega arith
-few test (suc n) = omega (arith, few test n, one-at-most (test n))
+few test (suc n) = omega (arith, few test n, one-or-none (test n) refl)
 
-pub added-here : (counts : List ℕ) (x : ℕ) {wanted : Bool} → wanted ≡ true → x < length counts → Added (λ e. eqb x e && wanted) counts (set counts x (getD counts x 0 + 1))
-added-here counts x {wanted} w h = record {
-  size = length-set counts x _;
-  count = λ e l. go e (ℕ-discrete e x);
-}
-  where
-    go : (e : ℕ) → Dec (e ≡ x) → getD (set counts x (getD counts x 0 + 1)) e 0 ≡ getD counts e 0 + cond (eqb x e && wanted) 1 0
-    go e (yes q) = rw (q, eq-eqb x x refl, w) (getD-set-same counts x _ 0 h)
-    go e (no f) = rw (ne-eqb x e (λ q. f (sym q))) (getD-set-other counts x e _ 0 f ∙ omega arith)
-
-pub added-nowhere : (test : ℕ → Bool) (counts : List ℕ) → ((e : ℕ) → e < length counts → test e ≡ false) → Added test counts counts
-added-nowhere test counts h = record {
-  size = refl;
-  count = λ e l. rw (h e l) (omega arith);
-}
-
-pub counts-none : (belongs : ℕ → ℕ → Bool) {counts : List ℕ} → counts ≡ zeros maxNodes → Counts belongs counts 0
+pub rows-none : (belongs : ℕ → ℕ → Bool) {counts : List ℕ} → counts ≡ zeros maxNodes → RowsCounted belongs counts 0
 unfolding howMany
-counts-none belongs e = record {
+rows-none belongs e = record {
   size = ap length e ∙ length-replicate {A = ℕ} maxNodes 0;
   count = λ r h. ap (λ (l : List ℕ). getD l r 0) e ∙ getD-zeros maxNodes r;
 }
 
-module _ {belongs : ℕ → ℕ → Bool} {counts : List ℕ} {n : ℕ} (c : Counts belongs counts n) where
-  -- a count is at most the number of rows passed, and 0 past the table
-  pub counts-low : n ≤ maxNodes → Low counts
-  counts-low l e = go (decLt e maxNodes)
-    where
-      go : Dec (e < maxNodes) → getD counts e 0 < 2048
-      go (yes h) = rw (c .count e h) (omega (arith, few (belongs e) n))
-      go (no h) = let d = List·getD-eq-default counts 0 {n = e} (omega (arith, c .size)) in rw d (omega arith)
+module _ {belongs : ℕ → ℕ → Bool} {counts : List ℕ} {n : ℕ} (c : RowsCounted belongs counts n) where
+  -- a count is at most the number of rows passed
+  pub counts-low : (e : ℕ) → getD counts e 0 ≤ n
+  counts-low = low-everywhere counts (λ e h. rw (c .count e (omega (arith, h, c .size))) (few (belongs e) n))
 
-  -- row n is counted where it belongs
-  pub counts-more : {test : ℕ → Bool} {after : List ℕ} → Added test counts after → ((e : ℕ) → test e ≡ belongs e n) → Counts belongs after (n + 1)
+  -- row n is counted at x, where it belongs
+  pub rows-more : (x : ℕ) (wanted : Bool) {after : List ℕ} → after ≡ counted wanted x counts
+      → ((e : ℕ) → (eqb x e && wanted) ≡ belongs e n) → RowsCounted belongs after (n + 1)
   unfolding howMany
-  counts-more {test} {after} a same = record {
-    size = a .size ∙ c .size;
-    count = λ e h. rw (add-one, howMany, ← same e) (a .count e (omega (arith, c .size)) ∙ ap (λ (m : ℕ). m + cond (test e) 1 0) (c .count e h));
+  rows-more x wanted {after} q same = record {
+    size = ap length q ∙ length-counted wanted x counts ∙ c .size;
+    count = λ e h.
+        let one = ap (λ (l : List ℕ). getD l e 0) q ∙ getD-counted wanted x counts e (omega (arith, h, c .size)) in
+        rw (add-one n, howMany, ← same e, and-comm (eqb x e) wanted)
+        (one ∙ ap (λ (m : ℕ). m + cond (wanted && eqb x e) 1 0) (c .count e h));
   }
 
 -- whether an element has too many attributes or children
@@ -91,5 +72,5 @@ module _ (t : List ℕ) (e : ℕ) where
   wide-row (many-children i k h) = i
 
   -- the test of an element by its counts
-  pub tells-wide : {attributes children : List ℕ} {k a c : ℕ} {answer : Bool} → nodesOf t ≤ maxNodes → e < nodesOf t → Counts (isAttribute t) attributes (nodesOf t) → Counts (isChild t) children (nodesOf t) → k ≡ kindOf t e → a ≡ getD attributes e 0 → c ≡ getD children e 0 → answer ≡ wide k a c → Decides (WidthFault t e) answer
+  pub tells-wide : {attributes children : List ℕ} {k a c : ℕ} {answer : Bool} → nodesOf t ≤ maxNodes → e < nodesOf t → RowsCounted (isAttribute t) attributes (nodesOf t) → RowsCounted (isChild t) children (nodesOf t) → k ≡ kindOf t e → a ≡ getD attributes e 0 → c ≡ getD children e 0 → answer ≡ wide k a c → Decides (WidthFault t e) answer
   tells-wide small l x y p q s w = rw (w, p, q, s, x .count e (omega arith), y .count e (omega arith)) (is-wide l _ _ _ refl refl refl)

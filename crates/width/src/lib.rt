@@ -13,34 +13,24 @@ ghost use Rattle.tables.specs.Outputs.{zeros};
 ghost use Rattle.instance.specs.Nodes.{nodesOf, isChild, isAttribute, element};
 ghost use Rattle.instance.specs.NodeRule.{maxNodes};
 ghost use Rattle.instance.specs.Width.{maxWidth, WidthFault};
-ghost use Rattle.width.specs.Counts.{Counts, Low, Added};
-
-// One more at place x of the counts, where it is wanted and in the table.
-fn add_one(counts: &mut [u32], x: u32, wanted: bool)
-    requires { ⌜ Low (now counts) ⌝ }
-    ensures { λ _. ⌜ Added (λ e. eqb x e && wanted) (now (counts .entry)) (now (counts .exit)) ⌝ }
-{
-    if !wanted {
-        return;
-    }
-    let at = x as usize;
-    if at < counts.len() {
-        counts[at] = counts[at] + 1;
-    }
-}
+ghost use Rattle.width.specs.Counts.{RowsCounted};
 
 // The attributes and the children of each row.
 fn count_rows(instance: &[u32], attributes: &mut [u32], children: &mut [u32])
-    requires { ⌜ (nodesOf (now instance) ≤ maxNodes) × (now attributes ≡ zeros maxNodes) × (now children ≡ zeros maxNodes) ⌝ }
-    ensures { λ _. ⌜ Counts (isAttribute (now (instance .entry))) (now (attributes .exit)) (nodesOf (now (instance .entry))) × Counts (isChild (now (instance .entry))) (now (children .exit)) (nodesOf (now (instance .entry))) ⌝ }
+    requires { ⌜ (nodesOf (now instance) ≤ maxNodes)
+        × (now attributes ≡ zeros maxNodes)
+        × (now children ≡ zeros maxNodes) ⌝ }
+    ensures { λ _.
+        ⌜ RowsCounted (isAttribute (now (instance .entry))) (now (attributes .exit)) (nodesOf (now (instance .entry)))
+        × RowsCounted (isChild (now (instance .entry))) (now (children .exit)) (nodesOf (now (instance .entry))) ⌝ }
 {
     let nodes = instance.len() / 5;
     let mut r = 0;
     while r < nodes {
         let k = instance::kind(instance, r as u32);
         let p = instance::parent(instance, r as u32);
-        add_one(attributes, p, k == ATTRIBUTE);
-        add_one(children, p, instance::is_child(k));
+        tables::count_if(attributes, p, k == ATTRIBUTE);
+        tables::count_if(children, p, instance::is_child(k));
         r += 1;
     }
 }
@@ -54,7 +44,9 @@ fn is_wide(kind: u32, attributes: u32, children: u32) -> bool
 
 // The first element that is too wide.
 fn first_wide(instance: &[u32], attributes: &[u32], children: &[u32]) -> Checked
-    requires { ⌜ (nodesOf (now instance) ≤ maxNodes) × Counts (isAttribute (now instance)) (now attributes) (nodesOf (now instance)) × Counts (isChild (now instance)) (now children) (nodesOf (now instance)) ⌝ }
+    requires { ⌜ (nodesOf (now instance) ≤ maxNodes)
+        × RowsCounted (isAttribute (now instance)) (now attributes) (nodesOf (now instance))
+        × RowsCounted (isChild (now instance)) (now children) (nodesOf (now instance)) ⌝ }
     ensures { λ r. ⌜ Finds (WidthFault (now (instance .entry))) r ⌝ }
 {
     let nodes = instance.len() / 5;

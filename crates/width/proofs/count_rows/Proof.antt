@@ -2,23 +2,24 @@
 use mathlib.Core.Path.{_≡_, sym, _∙_, ap}
 use Prim.Native.Nat.{ℕ, _-_, _≤_}
 use native.Mathlib.Omega.{arith}
+use lib.Dec.{eqb}
 use lib.ListN.{length, length-replicate}
 use borrow.Author.Needs.{needs}
 use Rattle.instance.specs.NodeRule.{maxNodes}
-use Rattle.width.specs.Counts.{Counts}
-use Rattle.instance.specs.Nodes.{nodesOf, isAttribute, isChild}
-use Rattle.width.proofs.Counting.{counts-none, counts-low, counts-more}
+use Rattle.width.specs.Counts.{RowsCounted}
+use Rattle.instance.specs.Nodes.{attribute, nodesOf, isAttribute, isChild}
+use Rattle.width.proofs.Counting.{rows-none, counts-low, rows-more}
 use Rattle.width.proofs.count_rows.Statement.{statement}
 use Rattle.width.proofs.count_rows.Tie as tie
 
 abbrev Inv-loop : tie.InvT-loop
-Inv-loop instance attributes₀ children₀ nodes r₀ attributes children r = (r ≤ nodesOf instance) × Counts (isAttribute instance) attributes r × Counts (isChild instance) children r
+Inv-loop instance attributes₀ children₀ nodes r₀ attributes children r = (r ≤ nodesOf instance) × RowsCounted (isAttribute instance) attributes r × RowsCounted (isChild instance) children r
 
 abbrev μ-loop : tie.MeasureT-loop
 μ-loop instance attributes₀ children₀ nodes r₀ attributes children r = nodes - r
 
 loop-holds : tie.Need-loop-holds Inv-loop μ-loop
-loop-holds c = (omega arith, counts-none _ (c .before .before .before .pre .1), counts-none _ (c .before .before .before .pre .2))
+loop-holds c = (omega arith, rows-none _ (c .before .before .before .pre .1), rows-none _ (c .before .before .before .pre .2))
 
 cast-kind : tie.Need-cast-kind Inv-loop μ-loop
 cast-kind c = omega arith
@@ -32,14 +33,14 @@ cast-parent c = omega (arith, c .before .loop-test .taken, c .before .before .be
 parent-requires : tie.Need-parent-requires Inv-loop μ-loop
 parent-requires c κs = search needs
 
-add-one-requires : tie.Need-add-one-requires Inv-loop μ-loop
-add-one-requires c κs = counts-low (c .before .before .before .before .loop .inv .1) (omega (arith, c .before .before .before .before .loop .inv .0, c .before .before .before .before .before .before .before .before .pre .0))
+count-if-requires : tie.Need-count-if-requires Inv-loop μ-loop
+count-if-requires c κs = omega (arith, counts-low (c .before .before .before .before .loop .inv .1) (c .before .parent .result), c .before .before .before .before .loop .inv .0, c .before .before .before .before .before .before .before .before .pre .0)
 
 is-child-requires : tie.Need-is-child-requires Inv-loop μ-loop
 is-child-requires c κs = search needs
 
-add-one-requires-2 : tie.Need-add-one-requires-2 Inv-loop μ-loop
-add-one-requires-2 c κs = counts-low (c .before .before .before .before .before .before .before .before .before .loop .inv .2) (omega (arith, c .before .before .before .before .before .before .before .before .before .loop .inv .0, c .before .before .before .before .before .before .before .before .before .before .before .before .before .pre .0))
+count-if-requires-2 : tie.Need-count-if-requires-2 Inv-loop μ-loop
+count-if-requires-2 c κs = omega (arith, counts-low (c .before .before .before .before .before .before .before .before .before .loop .inv .2) (c .before .before .before .before .before .before .parent .result), c .before .before .before .before .before .before .before .before .before .loop .inv .0, c .before .before .before .before .before .before .before .before .before .before .before .before .before .pre .0)
 
 add-r : tie.Need-add-r Inv-loop μ-loop
 add-r c = omega (arith, c .before .before .before .before .before .before .before .before .before .before .before .before .loop .inv .0, c .before .before .before .before .before .before .before .before .before .before .before .before .before .before .before .before .pre .0)
@@ -48,7 +49,7 @@ loop-less : tie.Need-loop-less Inv-loop μ-loop
 loop-less c = omega (arith, c .before .before .before .before .before .before .before .before .before .before .before .loop-test .taken)
 
 loop-again : tie.Need-loop-again Inv-loop μ-loop
-loop-again c = (omega (arith, c .before .before .before .before .before .before .before .before .before .before .before .loop-test .taken), counts-more (c .before .before .before .before .before .before .before .before .before .before .before .before .loop .inv .1) (c .before .before .before .before .before .before .before .add-one .ensures) (λ e. rw (c .before .before .before .before .before .before .before .before .before .parent .ensures, c .before .before .before .before .before .before .before .before .before .before .kind .ensures)), counts-more (c .before .before .before .before .before .before .before .before .before .before .before .before .loop .inv .2) (c .before .before .add-one2 .ensures) (λ e. rw (c .before .before .before .before .before .before .before .before .before .parent .ensures, c .before .before .before .is-child .ensures, c .before .before .before .before .before .before .before .before .before .before .kind .ensures)))
+loop-again c = (omega (arith, c .before .before .before .before .before .before .before .before .before .before .before .loop-test .taken), rows-more (c .before .before .before .before .before .before .before .before .before .before .before .before .loop .inv .1) (c .before .before .before .before .before .before .before .before .before .parent .result) (eqb (c .before .before .before .before .before .before .before .before .before .before .kind .result) attribute) (c .before .before .before .before .before .before .before .count-if .ensures) (λ e. rw (c .before .before .before .before .before .before .before .before .before .parent .ensures, c .before .before .before .before .before .before .before .before .before .before .kind .ensures)), rows-more (c .before .before .before .before .before .before .before .before .before .before .before .before .loop .inv .2) (c .before .before .before .before .before .before .before .before .before .parent .result) (c .before .before .before .is-child .result) (c .before .before .count-if2 .ensures) (λ e. rw (c .before .before .before .before .before .before .before .before .before .parent .ensures, c .before .before .before .is-child .ensures, c .before .before .before .before .before .before .before .before .before .before .kind .ensures)))
 
 same-length : tie.Need-same-length Inv-loop μ-loop
 same-length c = c .before .loop .inv .1 .size ∙ sym (ap length (c .before .before .before .before .before .pre .1) ∙ length-replicate {A = ℕ} maxNodes 0)
@@ -70,9 +71,9 @@ count-rows-spec =
     kind-requires
     cast-parent
     parent-requires
-    add-one-requires
+    count-if-requires
     is-child-requires
-    add-one-requires-2
+    count-if-requires-2
     add-r
     loop-less
     loop-again
