@@ -17,7 +17,7 @@ use Rattle.tables.proofs.Numbers.{one-or-none}
 use Rattle.instance.specs.Nodes.{element, nodesOf, kindOf, isChild, isAttribute}
 use Rattle.instance.specs.NodeRule.{maxNodes}
 use Rattle.instance.specs.Width.{maxWidth, howMany, WidthFault, many-attributes, many-children}
-use Rattle.width.specs.Counts.{RowsCounted}
+use Rattle.nodes.specs.Counts.{RowsCounted}
 
 few : (test : ℕ → Bool) (n : ℕ) → howMany test n ≤ n
 unfolding howMany
@@ -53,7 +53,9 @@ abbrev wide : ℕ → ℕ → ℕ → Bool
 wide k a c = eqb k element && (ltb maxWidth a || ltb maxWidth c)
 
 module _ (t : List ℕ) (e : ℕ) where
-  is-wide : e < nodesOf t → (x y z : Bool) → eqb (kindOf t e) element ≡ x → ltb maxWidth (howMany (isAttribute t e) (nodesOf t)) ≡ y → ltb maxWidth (howMany (isChild t e) (nodesOf t)) ≡ z → Decides (WidthFault t e) (x && (y || z))
+  is-wide : e < nodesOf t → (x y z : Bool) → eqb (kindOf t e) element ≡ x
+      → ltb maxWidth (howMany (isAttribute t e) (nodesOf t)) ≡ y → ltb maxWidth (howMany (isChild t e) (nodesOf t)) ≡ z
+      → Decides (WidthFault t e) (x && (y || z))
   is-wide l true true z p q s = many-attributes l (eqb-true _ _ p) (ltb-true _ _ q)
   is-wide l true false true p q s = many-children l (eqb-true _ _ p) (ltb-true _ _ s)
   is-wide l true false false p q s = λ f. no-width f
@@ -72,5 +74,9 @@ module _ (t : List ℕ) (e : ℕ) where
   wide-row (many-children i k h) = i
 
   -- the test of an element by its counts
-  pub tells-wide : {attributes children : List ℕ} {k a c : ℕ} {answer : Bool} → nodesOf t ≤ maxNodes → e < nodesOf t → RowsCounted (isAttribute t) attributes (nodesOf t) → RowsCounted (isChild t) children (nodesOf t) → k ≡ kindOf t e → a ≡ getD attributes e 0 → c ≡ getD children e 0 → answer ≡ wide k a c → Decides (WidthFault t e) answer
-  tells-wide small l x y p q s w = rw (w, p, q, s, x .count e (omega arith), y .count e (omega arith)) (is-wide l _ _ _ refl refl refl)
+  pub tells-wide : {attributes children : List ℕ} {k a c : ℕ} {answer : Bool} → nodesOf t ≤ maxNodes → e < nodesOf t
+      → RowsCounted (isAttribute t) attributes (nodesOf t) → RowsCounted (isChild t) children (nodesOf t)
+      → k ≡ kindOf t e → a ≡ getD attributes e 0 → c ≡ getD children e 0 → answer ≡ wide k a c
+      → Decides (WidthFault t e) answer
+  tells-wide small l x y p q s w =
+      rw (w, p, q, s, x .count e (omega arith), y .count e (omega arith)) (is-wide l _ _ _ refl refl refl)

@@ -6,11 +6,11 @@ use lib.Dec.{eqb}
 use lib.ListN.{length, length-replicate}
 use borrow.Author.Needs.{needs}
 use Rattle.instance.specs.NodeRule.{maxNodes}
-use Rattle.width.specs.Counts.{RowsCounted}
+use Rattle.nodes.specs.Counts.{RowsCounted}
 use Rattle.instance.specs.Nodes.{attribute, nodesOf, isAttribute, isChild}
-use Rattle.width.proofs.Counting.{rows-none, counts-low, rows-more}
-use Rattle.width.proofs.count_rows.Statement.{statement}
-use Rattle.width.proofs.count_rows.Tie as tie
+use Rattle.nodes.proofs.Counting.{rows-none, counts-low, rows-more}
+use Rattle.nodes.proofs.count_rows.Statement.{statement}
+use Rattle.nodes.proofs.count_rows.Tie as tie
 
 abbrev Inv-loop : tie.InvT-loop
 Inv-loop instance attributes₀ children₀ nodes r₀ attributes children r = (r ≤ nodesOf instance) × RowsCounted (isAttribute instance) attributes r × RowsCounted (isChild instance) children r
