@@ -156,7 +156,7 @@ fn check_width(instance: &[u32]) -> Checked
     if instance::MAX_NODES < instance.len() / 5 {
         return Checked::Fault(0);
     }
-    width::check_width(instance)
+    nodes::check_width(instance)
 }
 
 #[no_mangle]

@@ -1,19 +1,22 @@
-// The rule of instance rows, code 9.
+// The rule of instance rows, code 9, and the width of elements, code 10.
 use instance::ATTRIBUTE;
 use instance::ELEMENT;
 use instance::MAX_NODES;
+use instance::MAX_WIDTH;
 use instance::NO_PARENT;
 use instance::TEXT;
 use tables::Checked;
 ghost use mathlib.Core.Path.{_≡_};
-ghost use mathlib.Core.Bool.{_&&_};
+ghost use mathlib.Core.Bool.{_&&_, _||_};
 ghost use Prim.Native.Nat.{_+_, _≤_, _<_};
-ghost use lib.Dec.{ltb};
+ghost use lib.Dec.{eqb, ltb};
 ghost use Rattle.tables.specs.Answers.{Decides, Finds};
 ghost use Rattle.tables.specs.Outputs.{zeros};
-ghost use Rattle.instance.specs.Nodes.{nodesOf};
+ghost use Rattle.instance.specs.Nodes.{element, nodesOf, isChild, isAttribute};
 ghost use Rattle.instance.specs.NodeRule.{maxNodes, fieldsRight, nearest, ParentRight, SizeFault, WrongNode, NodeFault};
 ghost use Rattle.instance.specs.Walk.{Rooted, LastChildren, Twin, RepeatsName, BadNode, Placed, TellsWrong};
+ghost use Rattle.instance.specs.Width.{maxWidth, WidthFault};
+ghost use Rattle.nodes.specs.Counts.{RowsCounted};
 
 // Whether x is the number of a string other than the empty one, string 0.
 fn is_nonempty(strings: usize, x: u32) -> bool
@@ -221,4 +224,64 @@ pub fn check_nodes(strings: usize, instance: &[u32]) -> Checked
     };
     let mut last = [0u32; MAX_NODES];
     first_wrong_node(strings, instance, &mut last)
+}
+
+// The attributes and the children of each row.
+fn count_rows(instance: &[u32], attributes: &mut [u32], children: &mut [u32])
+    requires { ⌜ (nodesOf (now instance) ≤ maxNodes)
+        × (now attributes ≡ zeros maxNodes)
+        × (now children ≡ zeros maxNodes) ⌝ }
+    ensures { λ _.
+        ⌜ RowsCounted (isAttribute (now (instance .entry))) (now (attributes .exit)) (nodesOf (now (instance .entry)))
+        × RowsCounted (isChild (now (instance .entry))) (now (children .exit)) (nodesOf (now (instance .entry))) ⌝ }
+{
+    let nodes = instance.len() / 5;
+    let mut r = 0;
+    while r < nodes {
+        let k = instance::kind(instance, r as u32);
+        let p = instance::parent(instance, r as u32);
+        tables::count_if(attributes, p, k == ATTRIBUTE);
+        tables::count_if(children, p, instance::is_child(k));
+        r += 1;
+    }
+}
+
+// Whether a row of a kind with so many attributes and children is an element that is too wide.
+fn is_wide(kind: u32, attributes: u32, children: u32) -> bool
+    ensures { λ r. ⌜ r ≡ (eqb kind element && (ltb maxWidth attributes || ltb maxWidth children)) ⌝ }
+{
+    (kind == ELEMENT) & ((MAX_WIDTH < attributes) | (MAX_WIDTH < children))
+}
+
+// The first element that is too wide.
+fn first_wide(instance: &[u32], attributes: &[u32], children: &[u32]) -> Checked
+    requires { ⌜ (nodesOf (now instance) ≤ maxNodes)
+        × RowsCounted (isAttribute (now instance)) (now attributes) (nodesOf (now instance))
+        × RowsCounted (isChild (now instance)) (now children) (nodesOf (now instance)) ⌝ }
+    ensures { λ r. ⌜ Finds (WidthFault (now (instance .entry))) r ⌝ }
+{
+    let nodes = instance.len() / 5;
+    let mut e = 0;
+    while e < nodes {
+        if is_wide(
+            instance::kind(instance, e as u32),
+            tables::word(attributes, e),
+            tables::word(children, e),
+        ) {
+            return Checked::Fault(e as u32);
+        }
+        e += 1;
+    }
+    Checked::Fine
+}
+
+// Code 10: the first element with too many attributes or children, of a table that has no more rows than it may.
+pub fn check_width(instance: &[u32]) -> Checked
+    requires { ⌜ nodesOf (now instance) ≤ maxNodes ⌝ }
+    ensures { λ r. ⌜ Finds (WidthFault (now (instance .entry))) r ⌝ }
+{
+    let mut attributes = [0u32; MAX_NODES];
+    let mut children = [0u32; MAX_NODES];
+    count_rows(instance, &mut attributes, &mut children);
+    first_wide(instance, &attributes, &children)
 }

@@ -120,7 +120,7 @@ fn instance_verdict(bytes: &[u8], ends: &[u32], schema: &[u32], instance: &[u32]
     let Checked::Fine = nodes else {
         return tables::refusal(9, nodes);
     };
-    tables::refusal(10, width::check_width(instance))
+    tables::refusal(10, nodes::check_width(instance))
 }
 
 // Whether the instance is valid by the schema: codes 1 to 10.

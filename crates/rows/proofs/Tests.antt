@@ -7,7 +7,7 @@ use lib.ListN.{getD}
 use Rattle.schema.specs.Rows.{rowsOf, kindOf, aOf, bOf, shapeOf}
 use Rattle.schema.specs.declared.Shape.{Shape}
 use Rattle.schema.specs.RowRule.{maxRows, fieldRight, usesBefore, rowRight, WrongRow, SizeRight, RowFault, bad-size, bad-row}
-use Rattle.rows.specs.Counts.{Counts}
+use Rattle.rows.specs.Counts.{UsesCounted}
 
 -- with the right size only rows can be wrong
 pub only-rows : {s : List ℕ} → SizeRight s → {strings : ℕ} (r : ℕ) → RowFault strings s r → WrongRow strings s r
@@ -23,5 +23,5 @@ module _ (strings : ℕ) (s : List ℕ) (r : ℕ) {k x : ℕ} {shape : Shape} {a
   tested-b e f g h = rw (← e, ← f, ← g) (sym h)
 
 -- the test of a row by its count is that by its uses
-pub row-tested : (strings : ℕ) {s counts : List ℕ} {r uses : ℕ} {answer : Bool} → Counts s counts (rowsOf s) → r < maxRows → uses ≡ getD counts r 0 → answer ≡ rowRight strings s r uses → rowRight strings s r (usesBefore s r (rowsOf s)) ≡ answer
+pub row-tested : (strings : ℕ) {s counts : List ℕ} {r uses : ℕ} {answer : Bool} → UsesCounted s counts (rowsOf s) → r < maxRows → uses ≡ getD counts r 0 → answer ≡ rowRight strings s r uses → rowRight strings s r (usesBefore s r (rowsOf s)) ≡ answer
 row-tested strings {s} {counts} {r} c h e f = rw (← c .uses r h, ← e) (sym f)

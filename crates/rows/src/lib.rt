@@ -2,13 +2,12 @@
 use schema::Sort;
 use tables::Checked;
 ghost use mathlib.Core.Path.{_≡_};
-ghost use Prim.Native.Nat.{ℕ, _≤_, _<_};
-ghost use lib.ListN.{getD};
+ghost use Prim.Native.Nat.{_≤_};
 ghost use Rattle.tables.specs.Answers.{Finds};
 ghost use Rattle.tables.specs.Outputs.{zeros};
 ghost use Rattle.schema.specs.Rows.{rowsOf};
 ghost use Rattle.schema.specs.RowRule.{maxRows, sortRight, rowRight, WrongRow, RowFault};
-ghost use Rattle.rows.specs.Counts.{Counts, Added};
+ghost use Rattle.rows.specs.Counts.{UsesCounted};
 
 // Whether a row of a sort may have so many parents, and be the last row or not.
 fn sort_right(sort: Sort, uses: u32, last: bool) -> bool
@@ -23,27 +22,16 @@ fn sort_right(sort: Sort, uses: u32, last: bool) -> bool
     }
 }
 
-// One more use of row x, if it is in the table of counts.
-fn add_use(counts: &mut [u32], x: u32)
-    requires { ⌜ ((r : ℕ) → getD (now counts) r 0 < 1024) ⌝ }
-    ensures { λ _. ⌜ Added (now (counts .entry)) x (now (counts .exit)) ⌝ }
-{
-    let at = x as usize;
-    if at < counts.len() {
-        counts[at] = counts[at] + 1;
-    }
-}
-
 // The uses of each row.
 fn count_uses(schema: &[u32], counts: &mut [u32])
     requires { ⌜ (rowsOf (now schema) ≤ maxRows) × (now counts ≡ zeros maxRows) ⌝ }
-    ensures { λ _. ⌜ Counts (now (schema .entry)) (now (counts .exit)) (rowsOf (now (schema .entry))) ⌝ }
+    ensures { λ _. ⌜ UsesCounted (now (schema .entry)) (now (counts .exit)) (rowsOf (now (schema .entry))) ⌝ }
 {
     let rows = schema.len() / 3;
     let mut p = 0;
     while p < rows {
-        add_use(counts, schema::child_a(schema, p as u32));
-        add_use(counts, schema::child_b(schema, p as u32));
+        tables::count_if(counts, schema::child_a(schema, p as u32), true);
+        tables::count_if(counts, schema::child_b(schema, p as u32), true);
         p += 1;
     }
 }
@@ -67,7 +55,7 @@ fn row_right(strings: usize, schema: &[u32], r: u32, uses: u32) -> bool
 
 // The first row that breaks its rule, with the uses of each row.
 fn scan_rows(strings: usize, schema: &[u32], counts: &[u32]) -> Checked
-    requires { ⌜ (rowsOf (now schema) ≤ maxRows) × Counts (now schema) (now counts) (rowsOf (now schema)) ⌝ }
+    requires { ⌜ (rowsOf (now schema) ≤ maxRows) × UsesCounted (now schema) (now counts) (rowsOf (now schema)) ⌝ }
     ensures { λ r. ⌜ Finds (WrongRow strings (now (schema .entry))) r ⌝ }
 {
     let rows = schema.len() / 3;

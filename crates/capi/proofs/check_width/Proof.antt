@@ -1,4 +1,4 @@
--- Few rows: the check of `width` finds the same places.
+-- Few rows: the check of `nodes` finds the same places.
 use Prim.Native.Nat.{ℕ, _≤_}
 use mathlib.Core.Path.{refl}
 use mathlib.Core.List.{List}

@@ -7,9 +7,9 @@ use Rattle.tables.proofs.Answers.{said-yes, said-no, finds-none}
 use Rattle.tables.specs.Answers.{Clear}
 use Rattle.instance.specs.Nodes.{nodesOf}
 use Rattle.instance.specs.Width.{WidthFault}
-use Rattle.width.proofs.Counting.{wide-row, tells-wide}
-use Rattle.width.proofs.first_wide.Statement.{statement}
-use Rattle.width.proofs.first_wide.Tie as tie
+use Rattle.nodes.proofs.Counting.{wide-row, tells-wide}
+use Rattle.nodes.proofs.first_wide.Statement.{statement}
+use Rattle.nodes.proofs.first_wide.Tie as tie
 
 abbrev Inv-loop : tie.InvT-loop
 Inv-loop instance attributes children nodes e₀ e = (e ≤ nodesOf instance) × Clear (WidthFault instance) e
