@@ -1,1 +1,4 @@
-pub mod Listing
+pub mod MatchList
+pub mod Order
+pub mod Putting
+pub mod Root

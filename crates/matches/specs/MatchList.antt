@@ -24,7 +24,8 @@ pub record ListWritten (J : Tables) (l : List (ℕ × ℕ)) (room : ℕ) (list :
   -- the two words of each pair in order, then zeros
   pub words : list ≡ laid room (pairWords l)
   pub counted : number ≡ length l
-  -- valid exactly when the root is paired with a definition that the start names, which is when a derivation by (valid) of 9.4 exists
+  -- valid exactly when the root is paired with a definition that the start names, which is when a derivation by (valid)
+  -- of 9.4 exists
   pub rooted : Decides ((d : ℕ) × StartNames J d × List·Memᴰ (0, d) l) valid
   pub derived : Decides (job.Valid J) valid
 

@@ -133,7 +133,7 @@ pub fn verdict(bytes: &[u8], ends: &[u32], schema: &[u32], instance: &[u32]) -> 
     };
     let mut pairs = [0u8; instance::MAX_NODES * schema::MAX_ROWS];
     pairs::pair_table(bytes, ends, schema, instance, &mut pairs);
-    if validity::valid(schema, &pairs) {
+    if matches::valid(schema, &pairs) {
         Validation::Valid
     } else {
         Validation::NotValid

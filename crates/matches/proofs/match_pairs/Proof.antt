@@ -6,7 +6,7 @@ use lib.ListN.{length-replicate}
 use lib.Seq.{length-take-le}
 use Rattle.tables.specs.Answers.{Decides}
 use Rattle.schema.proofs.RowLaws.{few-rows, right-size}
-use Rattle.matches.proofs.Listing.{nodes-few, too-short, is-valid, not-valid}
+use Rattle.matches.proofs.MatchList.{nodes-few, too-short, is-valid, not-valid}
 use borrow.Author.Needs.{needs}
 use Rattle.matches.proofs.match_pairs.Statement.{statement}
 use Rattle.matches.proofs.match_pairs.Tie as tie

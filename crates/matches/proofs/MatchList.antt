@@ -1,5 +1,5 @@
 -- From the table of pairs, the definitions and the list of what the table marks to the match list and the answer.
-use Prim.Native.Nat.{ℕ, _*_, _≤_, _<_}
+use Prim.Native.Nat.{ℕ, _≤_, _<_}
 use mathlib.Core.Path.{_≡_, sym, _∙_, subst}
 use mathlib.Core.Bool.{Bool, true, false}
 use mathlib.Core.Logic.{_↔_}
@@ -10,11 +10,9 @@ use lib.Seq.{getD-take, length-take-le}
 use borrow.Author.Tests.{eq-eqb, eqb-true}
 use Rattle.tables.specs.Tables.{Tables}
 use Rattle.tables.specs.Answers.{Decides}
-use Rattle.tables.specs.Outputs.{zeros}
 use Rattle.tables.proofs.Answers.{decides-same}
 use Rattle.schema.specs.Rows.{rowsOf}
 use Rattle.schema.proofs.Sorts.{definition-kind}
-use Rattle.schema.proofs.RowLaws.{few-rows, right-size}
 use Rattle.instance.specs.Nodes.{nodesOf}
 use Rattle.instance.specs.NodeRule.{maxNodes, bad-size}
 use Rattle.instance.proofs.Size.{few-nodes, some-node}
@@ -26,19 +24,14 @@ use Rattle.rules.proofs.Inversion.{against}
 use Rattle.rules.proofs.RowPatterns.{has-kind}
 use Rattle.rules.proofs.Validity.{valid}
 use Rattle.pairs.specs.Pairs.{TablesPass, PairsRight}
-use Rattle.listing.specs.Listing.{isMarked, markedPairs, ListsPairs, whole, short}
-use Rattle.listing.specs.declared.Listed.{Listed}
-use Rattle.listing.specs.declared.Listed.the-variants as listed
-use Rattle.listing.proofs.Order.{marked-rising, marked-lists}
-use Rattle.validity.proofs.Root.{root-element}
+use Rattle.matches.specs.Listing.{isMarked, markedPairs, ListsPairs}
+use Rattle.matches.specs.declared.Listed.{Listed}
+use Rattle.matches.specs.declared.Listed.the-variants as listed
+use Rattle.matches.proofs.Order.{marked-rising, marked-lists}
+use Rattle.matches.proofs.Putting as put
+use Rattle.matches.proofs.Root.{root-element}
 use Rattle.matches.specs.MatchList.{MatchList, ListWritten, ListAnswer}
 use Rattle.matches.specs.declared.Answer.the-variants as answer
-
-pairs-short : {n : ℕ} → listed.Pairs n ≡ listed.TooShort → ⊥
-pairs-short e = let z : _≡_ {A = ℕ} 0 1 = cc in omega arith
-
-pairs-number : {n m : ℕ} → listed.Pairs n ≡ listed.Pairs m → n ≡ m
-pairs-number e = cc e
 
 module _ {J : Tables} (pass : TablesPass J) where
   abbrev s : List ℕ
@@ -106,19 +99,13 @@ module _ {J : Tables} (pass : TablesPass J) where
     all = is-match-list right definitions long
 
     pub too-short : r ≡ listed.TooShort → ListAnswer J room list answer.TooShort
-    too-short e = record { pairs = marked; all = all; says = go lists }
-      where
-        go : ListsPairs table (take n rows) (nodesOf t) room list r → (room < length marked * 2) × (list ≡ zeros room)
-        go (whole f q w) = absurd (pairs-short (sym q ∙ e))
-        go (short l q z) = (l, z)
+    too-short e = record { pairs = marked; all = all; says = put.too-short lists e }
 
     module _ {number : ℕ} (e : r ≡ listed.Pairs number) where
       written : (valid : Bool) → Decides (Valid J) valid → ListWritten J marked room list number valid
-      written valid d = go lists
-        where
-          go : ListsPairs table (take n rows) (nodesOf t) room list r → ListWritten J marked room list number valid
-          go (whole f q w) = record { fit = f; words = w; counted = pairs-number (sym e ∙ q); rooted = decides-same valid (root-paired all .0) (root-paired all .1) d; derived = d }
-          go (short l q z) = absurd (pairs-short (sym e ∙ q))
+      written valid d =
+          let l = put.listed lists e in
+          record { fit = l .1; words = l .2; counted = l .0; rooted = decides-same valid (root-paired all .0) (root-paired all .1) d; derived = d }
 
       pub is-valid : Decides (Valid J) true → ListAnswer J room list (answer.Valid number)
       is-valid d = record { pairs = marked; all = all; says = written true d }

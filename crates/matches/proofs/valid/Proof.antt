@@ -3,9 +3,9 @@ use native.Mathlib.Omega.{arith}
 use denote.Ref.{now}
 use borrow.Author.Needs.{needs}
 use Rattle.schema.proofs.RowLaws.{few-rows, right-size}
-use Rattle.validity.proofs.Root.{some-row, start-asked, tells-valid}
-use Rattle.validity.proofs.valid.Statement.{statement}
-use Rattle.validity.proofs.valid.Tie as tie
+use Rattle.matches.proofs.Root.{some-row, start-asked, tells-valid}
+use Rattle.matches.proofs.valid.Statement.{statement}
+use Rattle.matches.proofs.valid.Tie as tie
 
 sub-last : tie.Need-sub-last
 sub-last c = let x = some-row (c .before .before .pre .pass .schema .rows) in omega arith

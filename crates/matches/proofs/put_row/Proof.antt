@@ -1,9 +1,9 @@
 -- The marked ones among the first k definitions are put.
 use Prim.Native.Nat.{_+_, _-_, _≤_}
-use Rattle.listing.proofs.Putting.{put-as, put-none, put-length, no-row, row-more}
-use Rattle.listing.proofs.put_row.Statement.{statement}
-use Rattle.listing.proofs.put_row.Tie as tie
-use Rattle.listing.specs.Listing.{rowPairs, PutPairs}
+use Rattle.matches.proofs.Putting.{put-as, put-none, put-length, no-row, row-more}
+use Rattle.matches.proofs.put_row.Statement.{statement}
+use Rattle.matches.proofs.put_row.Tie as tie
+use Rattle.matches.specs.Listing.{rowPairs, PutPairs}
 use denote.Ref.{now}
 use mathlib.Core.Path.{_≡_, sym, ap}
 use native.Mathlib.Omega.{arith}

@@ -4,22 +4,22 @@ use mathlib.Core.Path.{refl, sym, _∙_, ap}
 use lib.ListN.{getD}
 use denote.Ref.{now}
 use borrow.Author.Needs.{needs}
-use Rattle.validity.proofs.Root.{tells-ref, tells-first, tells-second, first-less, second-less, first-asked, second-asked, tells-nothing}
+use Rattle.matches.proofs.Root.{tells-ref, tells-first, tells-second, first-less, second-less, first-asked, second-asked, tells-nothing}
 use Prim.Native.Nat.{ℕ, _+_, _*_, _<_}
 use borrow.Fn.Kinds.{In}
 use borrow.Fn.PlainCycle.{Measures, is, falls, and}
-use Rattle.validity.proofs.matches_either.Reads as matches-either
-use Rattle.validity.proofs.matches_either.Kinds as matches-either-kinds
-use Rattle.validity.proofs.+matches_either+root_matches.Lts-matches_either as matches-either-lts
-use Rattle.validity.proofs.root_matches.Reads as root-matches
-use Rattle.validity.proofs.root_matches.Kinds as root-matches-kinds
-use Rattle.validity.proofs.+matches_either+root_matches.Lts-root_matches as root-matches-lts
+use Rattle.matches.proofs.matches_either.Reads as matches-either
+use Rattle.matches.proofs.matches_either.Kinds as matches-either-kinds
+use Rattle.matches.proofs.+matches_either+root_matches.Lts-matches_either as matches-either-lts
+use Rattle.matches.proofs.root_matches.Reads as root-matches
+use Rattle.matches.proofs.root_matches.Kinds as root-matches-kinds
+use Rattle.matches.proofs.+matches_either+root_matches.Lts-root_matches as root-matches-lts
 use Rattle.schema.proofs.field_a.Reads as field-a-reads
 use Rattle.schema.proofs.field_b.Reads as field-b-reads
 use Rattle.schema.proofs.kind.Reads as kind-reads
 use Rattle.tables.proofs.byte.Reads as byte-reads
-use Rattle.validity.proofs.+matches_either+root_matches.{statement}
-use Rattle.validity.proofs.+matches_either+root_matches.Tie.{close}
+use Rattle.matches.proofs.+matches_either+root_matches.{statement}
+use Rattle.matches.proofs.+matches_either+root_matches.Tie.{close}
 
 abbrev μ-matches-either : Measures 2 matches-either-kinds.ps ℕ
 μ-matches-either κs a = 2 * a .1 .1 .0

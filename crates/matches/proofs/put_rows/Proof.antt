@@ -1,9 +1,9 @@
 -- The marked pairs of the rows before e are put.
 use Prim.Native.Nat.{_*_, _-_, _≤_}
-use Rattle.listing.proofs.Putting.{put-as, put-none, put-length, no-rows, rows-more}
-use Rattle.listing.proofs.put_rows.Statement.{statement}
-use Rattle.listing.proofs.put_rows.Tie as tie
-use Rattle.listing.specs.Listing.{markedPairs, PutPairs}
+use Rattle.matches.proofs.Putting.{put-as, put-none, put-length, no-rows, rows-more}
+use Rattle.matches.proofs.put_rows.Statement.{statement}
+use Rattle.matches.proofs.put_rows.Tie as tie
+use Rattle.matches.specs.Listing.{markedPairs, PutPairs}
 use denote.Ref.{now}
 use mathlib.Core.Path.{_≡_, sym, ap}
 use native.Mathlib.Omega.{arith}

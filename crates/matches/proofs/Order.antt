@@ -1,14 +1,14 @@
 -- The marked pairs of rising definitions are rising, and they are exactly what the table marks.
 use Prim.Native.Nat.{ℕ, zero, suc, _+_, _≤_, _<_}
 use mathlib.Core.Path.{_≡_, refl, sym, _∙_, ap, subst}
-use mathlib.Core.Bool.{Bool, true, false, cond, false≢true}
+use mathlib.Core.Bool.{Bool, true, false, cond}
 use mathlib.Core.List.{List, [], _∷_, _++_, List·Memᴰ, List·Memᴰ·head, List·Memᴰ·tail, List·Memᴰ·not-nil, List·Memᴰ·cases-cons}
 use mathlib.Core.Logic.{_⊎_, inl, inr, ⊎-elim, ⊎-map}
 use native.Mathlib.Nat.{eq-or-lt-of-le}
 use native.Mathlib.Omega.{arith}
 use lib.ListN.{length, getD}
 use Rattle.rules.specs.Listed.{Precedes, Rising, rising-none, rising-one, rising-more, Lists}
-use Rattle.listing.specs.Listing.{isMarked, pairIf, rowPairs, markedPairs}
+use Rattle.matches.specs.Listing.{isMarked, pairIf, rowPairs, markedPairs}
 
 -- ---- members of two lists, one after the other
 
@@ -118,7 +118,8 @@ module _ (table definitions : List ℕ) where
             let l = r .1 in
             subst (λ (z : ℕ × ℕ). Precedes z y) (sym (r .4 .0)) (subst (Precedes (r .0, getD definitions (r .2) 0)) (sym (q .2 .0)) (inl l))
 
-    -- the marked pairs list P, where P holds of a row and a row of the schema exactly if that is one of the definitions and marked
+    -- the marked pairs list P, where P holds of a row and a row of the schema exactly if that is one of the definitions
+    -- and marked
     pub marked-lists : (P : ℕ → ℕ → Type 0) (n : ℕ) → ((e k : ℕ) → e < n → k < length definitions → isMarked table e (getD definitions k 0) ≡ true → P e (getD definitions k 0))
         → ((e d : ℕ) → P e d → (e < n) × (k : ℕ) × (k < length definitions) × (getD definitions k 0 ≡ d) × (isMarked table e d ≡ true)) → Lists P (markedPairs table definitions n)
     marked-lists P n sound complete = record { sound = to; complete = from }

@@ -9,8 +9,8 @@ use lib.Seq.{sets}
 use Rattle.tables.specs.Outputs.{zeros, laid}
 use Rattle.schema.specs.RowRule.{maxRows}
 use Rattle.rules.specs.Listed.{pairWords}
-use Rattle.listing.specs.declared.Listed.{Listed}
-use Rattle.listing.specs.declared.Listed.the-variants.{Pairs, TooShort}
+use Rattle.matches.specs.declared.Listed.{Listed}
+use Rattle.matches.specs.declared.Listed.the-variants.{Pairs, TooShort}
 
 -- row e and definition d are marked
 abbrev pub isMarked : List ℕ → ℕ → ℕ → Bool
@@ -35,7 +35,8 @@ pub record PutPairs (before : List ℕ) (n : ℕ) (pairs : List (ℕ × ℕ)) (a
   pub holds : after ≡ sets before (n * 2) (pairWords pairs)
   pub number : m ≡ n + length pairs
 
--- the answer r and all of the list, which has so many words: the words of the marked pairs and zeros after them, or zeros where it has too few
+-- the answer r and all of the list, which has so many words: the words of the marked pairs and zeros after them, or
+-- zeros where it has too few
 pub data ListsPairs (table definitions : List ℕ) (rows room : ℕ) (list : List ℕ) (r : Listed) : Type 0 where
   whole : length (markedPairs table definitions rows) * 2 ≤ room → r ≡ Pairs (length (markedPairs table definitions rows))
       → list ≡ laid room (pairWords (markedPairs table definitions rows)) → ListsPairs table definitions rows room list r

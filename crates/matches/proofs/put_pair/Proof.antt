@@ -1,7 +1,7 @@
 -- A pair that fits, that fits by half, and that does not fit.
-use Rattle.listing.proofs.Putting.{put-both, put-first, put-neither}
-use Rattle.listing.proofs.put_pair.Statement.{statement}
-use Rattle.listing.proofs.put_pair.Tie as tie
+use Rattle.matches.proofs.Putting.{put-both, put-first, put-neither}
+use Rattle.matches.proofs.put_pair.Statement.{statement}
+use Rattle.matches.proofs.put_pair.Tie as tie
 use borrow.Author.Needs.{needs}
 use native.Mathlib.Omega.{arith}
 

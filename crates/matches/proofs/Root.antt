@@ -1,5 +1,5 @@
 -- The root against a pattern of start, by its kind, from the table of pairs.
-use Prim.Native.Nat.{ℕ, zero, suc, _-_, _≤_, _<_}
+use Prim.Native.Nat.{ℕ, zero, suc, _-_, _<_}
 use mathlib.Core.Path.{_≡_, refl, sym, _∙_, ap, subst}
 use mathlib.Core.Bool.{Bool, true, false}
 use mathlib.Core.List.{List, [], _∷_}
@@ -7,7 +7,7 @@ use mathlib.Core.Logic.{_≢_}
 use native.Mathlib.Nat.{zero-add}
 use native.Mathlib.Omega.{arith}
 use lib.Dec.{eqb}
-use lib.ListN.{length, getD}
+use lib.ListN.{getD}
 use borrow.Author.Tests.{eq-eqb, eqb-true, eqb-false}
 use Rattle.tables.specs.Tables.{tablesOf}
 use Rattle.tables.specs.Answers.{Decides}
@@ -16,9 +16,8 @@ use Rattle.schema.specs.Rows.{rowsOf, kindOf, aOf, bOf, shapeOf}
 use Rattle.schema.specs.Views.{Pattern, notAllowed, ref, choice, patternBy, patternOf}
 use Rattle.schema.specs.RowRule.{RowsRight, no-row}
 use Rattle.schema.proofs.Fields.{both-fields}
-use Rattle.schema.proofs.RowLaws.{in-table, right-size}
+use Rattle.schema.proofs.RowLaws.{right-size}
 use Rattle.schema.proofs.Sorts.{definition-kind}
-use Rattle.instance.specs.Nodes.{nodesOf}
 use Rattle.instance.specs.NodeRule.{NodesRight}
 use Rattle.instance.specs.Elements.{isElement}
 use Rattle.instance.proofs.Elements.{rooted}
@@ -33,8 +32,7 @@ use Rattle.rules.specs.Reach.{Subpattern, Operand, operand, choice-first, choic
 use Rattle.rules.specs.Restricted.{Starts, starts-notAllowed, starts-ref, starts-choice}
 use Rattle.rules.proofs.RowPatterns.{row-makes, from-ref, from-choice, has-kind}
 use Rattle.marks.specs.Given.{pairEntry}
-use Rattle.pairs.specs.Pairs.{TablesPass, PairsRight}
-use Rattle.validity.specs.Start.{RootAsked, StartAsked, TellsRoot, TellsValid}
+use Rattle.matches.specs.Start.{RootAsked, StartAsked, TellsRoot, TellsValid}
 
 pub some-row : {strings : ℕ} {s : List ℕ} → RowsRight strings s → 0 < rowsOf s
 some-row {strings} {s} right = at (rowsOf s) refl

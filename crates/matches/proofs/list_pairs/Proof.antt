@@ -1,7 +1,7 @@
 -- What is too long is taken back to zeros.
 use Prim.Native.Nat.{ℕ}
-use Rattle.listing.proofs.Putting.{put-length, short-list, whole-list}
-use Rattle.listing.specs.Listing.{markedPairs, PutPairs}
+use Rattle.matches.proofs.Putting.{put-length, short-list, whole-list}
+use Rattle.matches.specs.Listing.{markedPairs, PutPairs}
 use Rattle.tables.specs.Outputs.{zeros}
 use denote.Ref.{now}
 use lib.ListN.{length, length-replicate}
@@ -9,8 +9,8 @@ use mathlib.Core.List.{List}
 use mathlib.Core.Path.{_∙_, ap, subst}
 use native.Mathlib.Omega.{arith}
 use borrow.Author.Needs.{needs}
-use Rattle.listing.proofs.list_pairs.Statement.{statement}
-use Rattle.listing.proofs.list_pairs.Tie as tie
+use Rattle.matches.proofs.list_pairs.Statement.{statement}
+use Rattle.matches.proofs.list_pairs.Tie as tie
 
 zero-u32-requires : tie.Need-zero-u32-requires
 zero-u32-requires c κs = search needs

@@ -1,7 +1,7 @@
 -- A pair, or none.
-use Rattle.listing.proofs.Putting.{put-as, put-none, marked, unmarked}
-use Rattle.listing.proofs.put_marked.Statement.{statement}
-use Rattle.listing.proofs.put_marked.Tie as tie
+use Rattle.matches.proofs.Putting.{put-as, put-none, marked, unmarked}
+use Rattle.matches.proofs.put_marked.Statement.{statement}
+use Rattle.matches.proofs.put_marked.Tie as tie
 use borrow.Author.Needs.{needs}
 use denote.Ref.{now}
 use mathlib.Core.Path.{sym, _∙_}

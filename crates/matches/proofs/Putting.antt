@@ -1,6 +1,6 @@
 -- Pairs put one after the other.
 use mathlib.Core.Path.{_≡_, refl, sym, _∙_, ap, ap₂}
-use mathlib.Core.List.{List, [], _∷_, _++_, append-nil}
+use mathlib.Core.List.{List, [], _∷_, _++_}
 use mathlib.Core.Logic.{_≢_}
 use Prim.Native.Nat.{ℕ, zero, suc, _+_, _*_, _≤_, _<_}
 use native.Mathlib.Nat.{zero-add}
@@ -12,9 +12,9 @@ use Rattle.tables.proofs.Stores.{sets-append, sets-laid}
 use Rattle.tables.specs.Outputs.{zeros, laid}
 use Rattle.schema.specs.RowRule.{maxRows}
 use Rattle.rules.specs.Listed.{pairWords}
-use Rattle.listing.specs.Listing.{pairIf, rowPairs, markedPairs, PutPairs, ListsPairs, whole, short}
-use Rattle.listing.specs.declared.Listed.{Listed}
-use Rattle.listing.specs.declared.Listed.the-variants.{Pairs, TooShort}
+use Rattle.matches.specs.Listing.{pairIf, rowPairs, markedPairs, PutPairs, ListsPairs, whole, short}
+use Rattle.matches.specs.declared.Listed.{Listed}
+use Rattle.matches.specs.declared.Listed.the-variants.{Pairs, TooShort}
 
 words-append : (a b : List (ℕ × ℕ)) → pairWords (a ++ b) ≡ pairWords a ++ pairWords b
 unfolding pairWords
@@ -98,8 +98,8 @@ module _ {table definitions : List ℕ} {rows room : ℕ} where
 
   -- what an answer of the listing says
   pub listed : {list : List ℕ} {r : Listed} {n : ℕ} → ListsPairs table definitions rows room list r → r ≡ Pairs n
-      → (n ≡ length (markedPairs table definitions rows)) × (n * 2 ≤ room) × (list ≡ laid room (pairWords (markedPairs table definitions rows)))
-  listed {n = n} (whole h e l) f = let k : n ≡ length (markedPairs table definitions rows) = cc (sym f ∙ e) in (k, omega arith, l)
+      → (n ≡ length (markedPairs table definitions rows)) × (length (markedPairs table definitions rows) * 2 ≤ room) × (list ≡ laid room (pairWords (markedPairs table definitions rows)))
+  listed (whole h e l) f = (cc (sym f ∙ e), h, l)
   listed {n = n} (short h e z) f = let k : TooShort ≡ Pairs n = sym e ∙ f in let y : _≡_ {A = ℕ} 0 1 = cc in absurd (omega arith)
 
   pub too-short : {list : List ℕ} {r : Listed} → ListsPairs table definitions rows room list r → r ≡ TooShort → (room < length (markedPairs table definitions rows) * 2) × (list ≡ zeros room)
