@@ -1,11 +1,11 @@
 -- From the table of pairs, the definitions and the list of what the table marks to the match list and the answer.
 use Prim.Native.Nat.{ℕ, _≤_, _<_}
-use mathlib.Core.Path.{_≡_, sym, _∙_, subst}
+use mathlib.Core.Path.{_≡_, sym, _∙_, subst, subst⁻¹}
 use mathlib.Core.Bool.{Bool, true, false}
 use mathlib.Core.Logic.{_↔_}
 use mathlib.Core.List.{List, List·Memᴰ}
 use native.Mathlib.Omega.{arith}
-use lib.ListN.{length, getD, take}
+use lib.ListN.{length, getD, take, replicate, length-replicate}
 use lib.Seq.{getD-take, length-take-le}
 use borrow.Author.Tests.{eq-eqb, eqb-true}
 use Rattle.tables.specs.Tables.{Tables}
@@ -23,7 +23,7 @@ use Rattle.rules.specs.Spans.{Paired}
 use Rattle.rules.proofs.Inversion.{against}
 use Rattle.rules.proofs.RowPatterns.{has-kind}
 use Rattle.rules.proofs.Validity.{valid}
-use Rattle.pairs.specs.Pairs.{TablesPass, PairsRight}
+use Rattle.pairs.specs.Pairs.{TablesPass, Pairable, PairsRight}
 use Rattle.matches.specs.Listing.{isMarked, markedPairs, ListsPairs}
 use Rattle.matches.specs.declared.Listed.{Listed}
 use Rattle.matches.specs.declared.Listed.the-variants as listed
@@ -32,6 +32,10 @@ use Rattle.matches.proofs.Putting as put
 use Rattle.matches.proofs.Root.{root-element}
 use Rattle.matches.specs.MatchList.{MatchList, ListWritten, ListAnswer}
 use Rattle.matches.specs.declared.Answer.the-variants as answer
+
+-- a table of so many entries has one for every instance row and every schema row
+pub whole-table : {J : Tables} → TablesPass J → Pairable J (replicate {A = ℕ} 524288 0)
+whole-table pass = record { pass = pass; room = subst⁻¹ (λ n. 524288 ≤ n) (length-replicate {A = ℕ} 524288 0) (omega arith) }
 
 module _ {J : Tables} (pass : TablesPass J) where
   abbrev s : List ℕ

@@ -3,12 +3,14 @@ ghost use mathlib.Core.Path.{_≡_};
 ghost use mathlib.Core.List.{[], _∷_};
 ghost use Prim.Native.Nat.{_+_, _*_, _≤_, _<_};
 ghost use lib.ListN.{length};
+ghost use Rattle.tables.specs.Answers.{Decides};
 ghost use Rattle.tables.specs.Tables.{stringTable, tablesOf};
 ghost use Rattle.schema.specs.Kinds.{choice};
 ghost use Rattle.schema.specs.Rows.{kindOf};
 ghost use Rattle.schema.specs.RowRule.{maxRows};
 ghost use Rattle.instance.specs.NodeRule.{maxNodes};
-ghost use Rattle.pairs.specs.Pairs.{Pairable, PairsRight};
+ghost use Rattle.rules.specs.Job.{Valid};
+ghost use Rattle.pairs.specs.Pairs.{TablesPass, Pairable};
 ghost use Rattle.matches.specs.Listing.{pairIf, rowPairs, markedPairs, PutPairs, ListsPairs};
 ghost use Rattle.matches.specs.MatchList.{ListAnswer};
 ghost use Rattle.matches.specs.Start.{RootAsked, StartAsked, TellsRoot, TellsValid};
@@ -129,7 +131,7 @@ fn root_matches(schema: &[u32], pairs: &[u8], p: u32) -> bool
 }
 
 // Whether the instance is valid: start is the last row.
-pub fn valid(schema: &[u32], pairs: &[u8]) -> bool
+fn valid(schema: &[u32], pairs: &[u8]) -> bool
     requires { ⌜ RootAsked (now schema) (now pairs) ⌝ }
     ensures { λ r. ⌜ TellsValid (now (schema .entry)) (now (pairs .entry)) r ⌝ }
 {
@@ -137,8 +139,8 @@ pub fn valid(schema: &[u32], pairs: &[u8]) -> bool
     root_matches(schema, pairs, schema::field_a(schema, last as u32))
 }
 
-// The match list of tables that pass, with a lent table of pairs, which is filled.
-pub fn match_pairs(
+// The match list of tables that pass, by a lent table of pairs, which is filled first.
+fn list_matches(
     bytes: &[u8],
     ends: &[u32],
     schema: &[u32],
@@ -148,7 +150,6 @@ pub fn match_pairs(
 ) -> Answer
     requires { ⌜ Pairable (tablesOf (stringTable (now bytes) (now ends)) (now schema) (now instance)) (now pairs) ⌝ }
     ensures { λ r. ⌜ ListAnswer (tablesOf (stringTable (now (bytes .entry)) (now (ends .entry))) (now (schema .entry)) (now (instance .entry))) (length (now (list .entry))) (now (list .exit)) r ⌝ }
-    ensures filled { λ _. ⌜ PairsRight (tablesOf (stringTable (now (bytes .entry)) (now (ends .entry))) (now (schema .entry)) (now (instance .entry))) (now (pairs .exit)) ⌝ }
 {
     pairs::pair_table(bytes, ends, schema, instance, pairs);
     let mut rows = [0u32; schema::MAX_ROWS];
@@ -163,4 +164,29 @@ pub fn match_pairs(
     } else {
         Answer::NotValid(number)
     }
+}
+
+// The match list of tables that pass, with valid or not.
+pub fn match_pairs(
+    bytes: &[u8],
+    ends: &[u32],
+    schema: &[u32],
+    instance: &[u32],
+    list: &mut [u32],
+) -> Answer
+    requires { ⌜ TablesPass (tablesOf (stringTable (now bytes) (now ends)) (now schema) (now instance)) ⌝ }
+    ensures { λ r. ⌜ ListAnswer (tablesOf (stringTable (now (bytes .entry)) (now (ends .entry))) (now (schema .entry)) (now (instance .entry))) (length (now (list .entry))) (now (list .exit)) r ⌝ }
+{
+    let mut pairs = [0u8; instance::MAX_NODES * schema::MAX_ROWS];
+    list_matches(bytes, ends, schema, instance, &mut pairs, list)
+}
+
+// Whether the instance of tables that pass is valid.
+pub fn is_valid(bytes: &[u8], ends: &[u32], schema: &[u32], instance: &[u32]) -> bool
+    requires { ⌜ TablesPass (tablesOf (stringTable (now bytes) (now ends)) (now schema) (now instance)) ⌝ }
+    ensures { λ r. ⌜ Decides (Valid (tablesOf (stringTable (now (bytes .entry)) (now (ends .entry))) (now (schema .entry)) (now (instance .entry)))) r ⌝ }
+{
+    let mut pairs = [0u8; instance::MAX_NODES * schema::MAX_ROWS];
+    pairs::pair_table(bytes, ends, schema, instance, &mut pairs);
+    valid(schema, &pairs)
 }

@@ -1,10 +1,10 @@
 -- From the verdict on schema and instance and the answer with the match list to the promises of the calls on an instance.
 use Prim.Native.Nat.{ℕ, _*_, _≤_}
-use mathlib.Core.Path.{_≡_, refl, sym, _∙_, ap, subst, subst⁻¹}
+use mathlib.Core.Path.{_≡_, refl, sym, _∙_, ap, subst}
 use mathlib.Core.Bool.{Bool, true, false}
 use mathlib.Core.List.{List}
 use native.Mathlib.Omega.{arith}
-use lib.ListN.{length, replicate, length-replicate}
+use lib.ListN.{length}
 use Rattle.tables.specs.Tables.{Tables}
 use Rattle.strings.specs.Strings.{instanceStrings}
 use Rattle.tables.specs.Answers.{Decides, Finds}
@@ -15,14 +15,13 @@ use Rattle.tables.specs.declared.Checked.the-variants.{Fine, Fault}
 use Rattle.tables.specs.declared.Verdict.{Verdict}
 use Rattle.tables.specs.declared.Verdict.the-variants.{Passed, Refused}
 use Rattle.tables.proofs.Chain.{tries-map, tries-go, stops, on, last-code}
-use Rattle.schema.specs.RowRule.{maxRows}
 use Rattle.instance.specs.Nodes.{nodesOf}
 use Rattle.instance.specs.NodeRule.{maxNodes, NodeFault, NodesRight, bad-size}
 use Rattle.instance.specs.Width.{WidthFault}
 use Rattle.instance.proofs.Size.{few-nodes}
 use Rattle.rules.specs.Job.{Valid}
 use Rattle.rules.proofs.Uniqueness.{unique}
-use Rattle.pairs.specs.Pairs.{TablesPass, Pairable}
+use Rattle.pairs.specs.Pairs.{TablesPass}
 use Rattle.matches.specs.MatchList.{MatchList, ListWritten, ListAnswer}
 use Rattle.matches.specs.declared.Answer.{Answer}
 use Rattle.matches.specs.declared.Answer.the-variants as answer
@@ -35,10 +34,6 @@ use Rattle.relaxng.specs.declared.MatchAnswer.{MatchAnswer}
 use Rattle.relaxng.specs.declared.MatchAnswer.the-variants as matches
 use Rattle.relaxng.specs.declared.MatchAnswer.the-variants.{NotMatched}
 use Rattle.relaxng.proofs.Refused.{refused-passed, schema-refused, schema-passed, tries-coded, passes-coded, schema-coded, refused-same}
-
--- the table of pairs that the calls lend has an entry for every instance row and every schema row
-pub whole-table : 524288 ≤ length (replicate {A = ℕ} 524288 0)
-whole-table = subst⁻¹ (λ n. 524288 ≤ n) (length-replicate {A = ℕ} 524288 0) (omega arith)
 
 -- rows that keep their rule are few
 pub nodes-few : (strings : ℕ) (t : List ℕ) (c : Checked) → Finds (NodeFault strings t) c → c ≡ Fine → nodesOf t ≤ maxNodes
@@ -85,9 +80,6 @@ module _ {J : Tables} where
 
   pub tables-pass : {v : Verdict} → v ≡ Passed → InstanceRefusal J Passes v → TablesPass J
   tables-pass e r = tables-of (subst (InstanceRefusal J Passes) e r)
-
-  pub pairable : {v : Verdict} {pairs : List ℕ} → v ≡ Passed → InstanceRefusal J Passes v → maxNodes * maxRows ≤ length pairs → Pairable J pairs
-  pairable e r room = record { pass = tables-pass e r; room = room }
 
   -- ---- the verdict
 

@@ -131,9 +131,7 @@ pub fn verdict(bytes: &[u8], ends: &[u32], schema: &[u32], instance: &[u32]) -> 
     let Verdict::Passed = passed else {
         return Validation::NotValidated(tables::code_of(passed), tables::place_of(passed));
     };
-    let mut pairs = [0u8; instance::MAX_NODES * schema::MAX_ROWS];
-    pairs::pair_table(bytes, ends, schema, instance, &mut pairs);
-    if matches::valid(schema, &pairs) {
+    if matches::is_valid(bytes, ends, schema, instance) {
         Validation::Valid
     } else {
         Validation::NotValid
@@ -166,6 +164,5 @@ pub fn match_list(
         tables::zero_u32(list);
         return MatchAnswer::NotMatched(tables::code_of(passed), tables::place_of(passed));
     };
-    let mut pairs = [0u8; instance::MAX_NODES * schema::MAX_ROWS];
-    matches_of(matches::match_pairs(bytes, ends, schema, instance, &mut pairs, list))
+    matches_of(matches::match_pairs(bytes, ends, schema, instance, list))
 }

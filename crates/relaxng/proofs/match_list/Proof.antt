@@ -1,8 +1,6 @@
 -- Codes 1 to 10 leave zeros; then the list and code 12 are told of the tables, which pass.
-use Prim.Native.Nat.{ℕ}
-use mathlib.Core.Path.{refl, sym}
-use lib.ListN.{length-replicate}
-use Rattle.relaxng.proofs.Matched.{whole-table, pairable, refused-list, whole-list}
+use mathlib.Core.Path.{refl}
+use Rattle.relaxng.proofs.Matched.{tables-pass, refused-list, whole-list}
 use borrow.Author.Needs.{needs}
 use Rattle.relaxng.proofs.match_list.Statement.{statement}
 use Rattle.relaxng.proofs.match_list.Tie as tie
@@ -26,25 +24,22 @@ place-of-requires : tie.Need-place-of-requires
 place-of-requires c κs = search needs
 
 same-length : tie.Need-same-length
-same-length c = c .before .before .before .list .given
+same-length c = search needs
 
 returns : tie.Need-returns
 returns c = refused-list (c .before .before .before .before .before .before .before .before .instance-verdict .ensures) _ (c .before .before .before .before .before .before .enum-told2 .given .1) (c .before .code-of .ensures) (c .place-of .ensures) refl (c .before .before .before .before .zero-u32 .ensures)
 
-slice-aggregate-match-pairs : tie.Need-slice-aggregate-match-pairs
-slice-aggregate-match-pairs c = sym (length-replicate {A = ℕ} 524288 0)
-
 match-pairs-requires : tie.Need-match-pairs-requires
-match-pairs-requires c κs = pairable (c .before .before .enum-told .given .1) (c .before .before .before .before .instance-verdict .ensures) whole-table
+match-pairs-requires c κs = tables-pass (c .before .enum-told .given .1) (c .before .before .before .instance-verdict .ensures)
 
 matches-of-requires : tie.Need-matches-of-requires
 matches-of-requires c κs = search needs
 
 same-length-2 : tie.Need-same-length-2
-same-length-2 c = c .before .before .list2 .given
+same-length-2 c = search needs
 
 returns-2 : tie.Need-returns-2
-returns-2 c = whole-list (c .before .before .before .before .before .before .before .before .before .instance-verdict .ensures) _ (c .before .before .before .before .before .before .before .enum-told .given .1) (c .before .before .before .before .match-pairs .result) (c .before .before .before .before .match-pairs .ensures .0) (c .matches-of .ensures)
+returns-2 c = whole-list (c .before .before .before .before .before .before .before .instance-verdict .ensures) _ (c .before .before .before .before .before .enum-told .given .1) (c .before .before .before .match-pairs .result) (c .before .before .before .match-pairs .ensures) (c .matches-of .ensures)
 
 pub match-list-spec : {M : Type 1} → statement M
 match-list-spec =
@@ -58,7 +53,6 @@ match-list-spec =
     place-of-requires
     same-length
     returns
-    slice-aggregate-match-pairs
     match-pairs-requires
     matches-of-requires
     same-length-2

@@ -1,10 +1,8 @@
--- Where nothing is refused, valid or not is told of the table of pairs.
-use Prim.Native.Nat.{ℕ}
-use mathlib.Core.Path.{refl, sym, subst}
+-- Where nothing is refused the tables pass, and valid or not is told of them.
+use mathlib.Core.Path.{refl, subst}
 use mathlib.Core.Bool.{true, false}
-use lib.ListN.{length-replicate}
 use Rattle.tables.specs.Answers.{Decides}
-use Rattle.relaxng.proofs.Matched.{whole-table, tables-pass, pairable, refused-verdict, whole-verdict}
+use Rattle.relaxng.proofs.Matched.{tables-pass, refused-verdict, whole-verdict}
 use borrow.Author.Needs.{needs}
 use Rattle.relaxng.proofs.verdict.Statement.{statement}
 use Rattle.relaxng.proofs.verdict.Tie as tie
@@ -27,23 +25,14 @@ place-of-requires c κs = search needs
 returns : tie.Need-returns
 returns c = refused-verdict (c .before .before .before .before .instance-verdict .ensures) (c .before .before .enum-told2 .given .1) (c .before .code-of .ensures) (c .place-of .ensures) refl
 
-slice-aggregate-pair-table : tie.Need-slice-aggregate-pair-table
-slice-aggregate-pair-table c = sym (length-replicate {A = ℕ} 524288 0)
-
-pair-table-requires : tie.Need-pair-table-requires
-pair-table-requires c κs = pairable (c .before .enum-told .given .1) (c .before .before .before .instance-verdict .ensures) whole-table
-
-slice-aggregate-valid : tie.Need-slice-aggregate-valid
-slice-aggregate-valid c = sym (c .before .pairs2 .given)
-
-valid-requires : tie.Need-valid-requires
-valid-requires c κs = record { strings = _; instance = _; pass = tables-pass (c .before .before .before .before .enum-told .given .1) (c .before .before .before .before .before .before .instance-verdict .ensures); right = c .before .before .pair-table .ensures }
+is-valid-requires : tie.Need-is-valid-requires
+is-valid-requires c κs = tables-pass (c .enum-told .given .1) (c .before .before .instance-verdict .ensures)
 
 returns-2 : tie.Need-returns-2
-returns-2 c = whole-verdict (c .before .before .before .before .before .before .before .before .instance-verdict .ensures) (c .before .before .before .before .before .before .enum-told .given .1) true (subst (Decides _) (c .if1 .taken) (c .before .valid .ensures .tells _ _ (tables-pass (c .before .before .before .before .before .before .enum-told .given .1) (c .before .before .before .before .before .before .before .before .instance-verdict .ensures)) (c .before .before .before .before .pair-table .ensures))) refl
+returns-2 c = whole-verdict (c .before .before .before .before .instance-verdict .ensures) (c .before .before .enum-told .given .1) true (subst (Decides _) (c .if1 .taken) (c .before .is-valid .ensures)) refl
 
 returns-3 : tie.Need-returns-3
-returns-3 c = whole-verdict (c .before .before .before .before .before .before .before .before .instance-verdict .ensures) (c .before .before .before .before .before .before .enum-told .given .1) false (subst (Decides _) (c .if1 .left) (c .before .valid .ensures .tells _ _ (tables-pass (c .before .before .before .before .before .before .enum-told .given .1) (c .before .before .before .before .before .before .before .before .instance-verdict .ensures)) (c .before .before .before .before .pair-table .ensures))) refl
+returns-3 c = whole-verdict (c .before .before .before .before .instance-verdict .ensures) (c .before .before .enum-told .given .1) false (subst (Decides _) (c .if1 .left) (c .before .is-valid .ensures)) refl
 
 pub verdict-spec : {M : Type 1} → statement M
 verdict-spec =
@@ -55,9 +44,6 @@ verdict-spec =
     code-of-requires
     place-of-requires
     returns
-    slice-aggregate-pair-table
-    pair-table-requires
-    slice-aggregate-valid
-    valid-requires
+    is-valid-requires
     returns-2
     returns-3)
