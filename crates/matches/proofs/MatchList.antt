@@ -16,7 +16,7 @@ use Rattle.schema.proofs.Sorts.{definition-kind}
 use Rattle.instance.specs.Nodes.{nodesOf}
 use Rattle.instance.specs.NodeRule.{maxNodes, bad-size}
 use Rattle.instance.proofs.Size.{few-nodes, some-node}
-use Rattle.definitions.specs.Definitions.{Definitions}
+use Rattle.schema.specs.Definitions.{Definitions}
 use Rattle.rules.specs.Rules.{NotMatchBy, Proved}
 use Rattle.rules.specs.Job.{lookups, Pair, Valid, StartNames}
 use Rattle.rules.specs.Spans.{Paired}

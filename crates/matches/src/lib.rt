@@ -153,7 +153,7 @@ fn list_matches(
 {
     pairs::pair_table(bytes, ends, schema, instance, pairs);
     let mut rows = [0u32; schema::MAX_ROWS];
-    let n = definitions::definitions(schema, &mut rows) as usize;
+    let n = schema::definitions(schema, &mut rows) as usize;
     let nodes = instance.len() / 5;
     let listed = list_pairs(pairs, &rows[..n], nodes as u32, list);
     let Listed::Pairs(number) = listed else {

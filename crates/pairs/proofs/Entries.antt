@@ -19,7 +19,7 @@ use Rattle.strings.proofs.Table.{ends-of, few-strings}
 use Rattle.schema.specs.Rows.{rowsOf}
 use Rattle.schema.specs.RowRule.{maxRows}
 use Rattle.schema.proofs.RowLaws.{few-rows, right-size}
-use Rattle.definitions.specs.Definitions.{isDefinition, Definitions}
+use Rattle.schema.specs.Definitions.{isDefinition, Definitions}
 use Rattle.instance.specs.Nodes.{element, text, nodesOf, kindOf}
 use Rattle.instance.specs.NodeRule.{maxNodes, bad-size}
 use Rattle.instance.specs.Width.{maxWidth}

@@ -15,7 +15,7 @@ use Rattle.schema.specs.RowRule.{maxRows, RowsRight}
 use Rattle.schema.proofs.RowLaws.{few-rows, right-size}
 use Rattle.schema.proofs.Fields.{both-fields}
 use Rattle.schema.proofs.Sorts.{definition-kind}
-use Rattle.definitions.specs.Definitions.{isDefinition}
+use Rattle.schema.specs.Definitions.{isDefinition}
 use Rattle.instance.specs.Nodes as node
 use Rattle.instance.specs.Elements as element
 use Rattle.classes.specs.Membership.{inClass}

@@ -9,7 +9,7 @@ use lib.ListN.{length, getD, take}
 use Rattle.tables.specs.Tables.{StringTable, Tables, tablesOf}
 use Rattle.schema.specs.Rows.{rowsOf}
 use Rattle.schema.specs.RowRule.{maxRows}
-use Rattle.definitions.specs.Definitions.{isDefinition}
+use Rattle.schema.specs.Definitions.{isDefinition}
 use Rattle.instance.specs.NodeRule.{maxNodes}
 use Rattle.instance.specs.Elements.{isElement}
 use Rattle.instance.specs.Nodes as node

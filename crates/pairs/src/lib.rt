@@ -10,7 +10,7 @@ ghost use Rattle.tables.specs.Tables.{StringTable, stringTable, tablesOf};
 ghost use Rattle.instance.specs.Width.{maxWidth};
 ghost use Rattle.instance.specs.Nodes.{nodesOf};
 ghost use Rattle.instance.specs.Elements.{isElement};
-ghost use Rattle.definitions.specs.Definitions.{Definitions};
+ghost use Rattle.schema.specs.Definitions.{Definitions};
 ghost use Rattle.sets.specs.Collecting.{Collects};
 ghost use Rattle.matching.specs.Setting.{Setting, Asked, Covered, Related, Relatable};
 ghost use Rattle.marks.specs.Given.{Given};
@@ -384,7 +384,7 @@ pub fn pair_table(bytes: &[u8], ends: &[u32], schema: &[u32], instance: &[u32], 
     let mut blank = [0u8; 512];
     alone::fill(bytes, ends, schema, &mut alone, &mut nothing, &mut blank);
     let mut rows = [0u32; schema::MAX_ROWS];
-    let n = definitions::definitions(schema, &mut rows) as usize;
+    let n = schema::definitions(schema, &mut rows) as usize;
     let mut items = [0u32; 64];
     let mut marks = [0u64; schema::MAX_ROWS];
     let mut named = [0u64; schema::MAX_ROWS];

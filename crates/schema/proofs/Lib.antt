@@ -1,4 +1,5 @@
 pub mod Children
+pub mod DefinitionRows
 pub mod Falling
 pub mod Fields
 pub mod Marks

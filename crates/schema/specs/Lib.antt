@@ -1,3 +1,4 @@
+pub mod Definitions
 pub mod Falling
 pub mod Kinds
 pub mod Marks

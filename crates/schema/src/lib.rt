@@ -1,9 +1,14 @@
-// Schema rows: what a row of each kind holds, its children, what a field may hold, and the size of a table.
+// Schema rows: what a row of each kind holds, its children, what a field may hold, the size of a table, and the rows of
+// the definitions.
 use tables::Checked;
 ghost use mathlib.Core.Path.{_≡_};
+ghost use mathlib.Core.Bool.{cond};
+ghost use Prim.Native.Nat.{_≤_};
+ghost use lib.ListN.{length};
 ghost use Rattle.tables.specs.Answers.{Finds};
-ghost use Rattle.schema.specs.Rows.{kindOf, aOf, bOf, shape, shapeOf, sortOf, names, childA, childB, isPattern, isClass, isElement};
-ghost use Rattle.schema.specs.RowRule.{fieldRight, SizeFault};
+ghost use Rattle.schema.specs.Rows.{rowsOf, kindOf, aOf, bOf, shape, shapeOf, sortOf, names, childA, childB, isPattern, isClass, isElement};
+ghost use Rattle.schema.specs.RowRule.{maxRows, fieldRight, SizeFault};
+ghost use Rattle.schema.specs.Definitions.{isDefinition, Definitions};
 ghost use Rattle.schema.specs.Marks.{markIf, childrenMarked};
 
 pub const MAX_ROWS: usize = 512;
@@ -301,4 +306,31 @@ pub fn field_right(strings: usize, schema: &[u32], p: u32, field: Field, x: u32)
         Field::StringNumber => (x as usize) < strings,
         Field::Local => { if 0 < x { (x as usize) < strings } else { false } }
     }
+}
+
+// 1 for a definition, and 0 for another row.
+fn definition_count(schema: &[u32], d: u32) -> u32
+    ensures { λ n. ⌜ n ≡ cond (isDefinition (now (schema .entry)) d) 1 0 ⌝ }
+{
+    if kind(schema, d) == ELEMENT {
+        return 1;
+    }
+    0
+}
+
+// The rows of the definitions at the front of rows, in rising order, and how many there are.
+// What the words after them hold is left open.
+pub fn definitions(schema: &[u32], rows: &mut [u32]) -> u32
+    requires { ⌜ (rowsOf (now schema) ≤ maxRows) × (maxRows ≤ length (now rows)) ⌝ }
+    ensures { λ n. ⌜ Definitions (now (schema .entry)) (now (rows .exit)) n ⌝ }
+{
+    let all = schema.len() / 3;
+    let mut n: u32 = 0;
+    let mut d: u32 = 0;
+    while (d as usize) < all {
+        rows[n as usize] = d;
+        n += definition_count(schema, d);
+        d += 1;
+    }
+    n
 }

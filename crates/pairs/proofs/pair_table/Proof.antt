@@ -10,7 +10,7 @@ use Rattle.strings.proofs.Table.{ends-of, few-strings}
 use Rattle.schema.proofs.RowLaws.{few-rows, right-size}
 use Rattle.instance.specs.NodeRule.{bad-size}
 use Rattle.instance.proofs.Size.{few-nodes}
-use Rattle.definitions.proofs.Collecting.{definitions-part}
+use Rattle.schema.proofs.DefinitionRows.{definitions-part}
 use Rattle.pairs.proofs.Entries.{filling-start}
 use borrow.Author.Needs.{needs}
 use Rattle.pairs.proofs.pair_table.Statement.{statement}

@@ -8,10 +8,10 @@ use native.Mathlib.Nat.{eq-or-lt-of-le}
 use native.Mathlib.Omega.{arith}
 use lib.ListN.{length, getD, set, take}
 use lib.Seq.{getD-set-same, getD-set-other, getD-take, length-take-le}
 use Rattle.schema.specs.Kinds as kind
 use Rattle.schema.specs.Rows.{kindOf, shapeOf, isElement}
 use Rattle.schema.proofs.Sorts.{definition-kind}
-use Rattle.definitions.specs.Definitions.{isDefinition, DefinitionsBelow, Definitions}
+use Rattle.schema.specs.Definitions.{isDefinition, DefinitionsBelow, Definitions}
 
 pub definitions-none : (s words : List ℕ) → DefinitionsBelow s words 0 0
 definitions-none s words = record { few = omega arith; rows = λ k h. absurd (omega arith); defined = λ k h. absurd (omega arith); rising = λ j k i h. absurd (omega arith); every = λ d h. absurd (omega arith) }

@@ -1,9 +1,9 @@
 use denote.Ref.{now}
 use mathlib.Core.Path.{sym, _∙_}
-use Rattle.definitions.proofs.Collecting.{count-one, count-none}
+use Rattle.schema.proofs.DefinitionRows.{count-one, count-none}
 use borrow.Author.Needs.{needs}
-use Rattle.definitions.proofs.definition_count.Statement.{statement}
-use Rattle.definitions.proofs.definition_count.Tie as tie
+use Rattle.schema.proofs.definition_count.Statement.{statement}
+use Rattle.schema.proofs.definition_count.Tie as tie
 
 kind-requires : tie.Need-kind-requires
 kind-requires c κs = search needs

@@ -5,12 +5,12 @@ use native.Mathlib.Omega.{arith}
 use lib.ListN.{length, length-set}
 use borrow.Author.Needs.{needs}
 use denote.Ref.{now}
 use Rattle.schema.specs.Rows.{rowsOf}
-use Rattle.definitions.specs.Definitions.{isDefinition, DefinitionsBelow}
+use Rattle.schema.specs.Definitions.{isDefinition, DefinitionsBelow}
 use Rattle.tables.proofs.Numbers.{one-or-none}
-use Rattle.definitions.proofs.Collecting.{definitions-none, definitions-more}
-use Rattle.definitions.proofs.definitions.Statement.{statement}
-use Rattle.definitions.proofs.definitions.Tie as tie
+use Rattle.schema.proofs.DefinitionRows.{definitions-none, definitions-more}
+use Rattle.schema.proofs.definitions.Statement.{statement}
+use Rattle.schema.proofs.definitions.Tie as tie
 
 abbrev Inv-loop : tie.InvT-loop
 Inv-loop schema rows₀ all n₀ d₀ rows n d = (d ≤ all) × (length rows ≡ length rows₀) × DefinitionsBelow schema rows n d
