@@ -9,8 +9,8 @@ use Rattle.schema.specs.Rows.{rowsOf, sortOf, isElement}
 abbrev pub isDefinition : List ℕ → ℕ → Bool
 isDefinition s d = isElement (sortOf s d)
 
--- the first n words are the definitions among the rows before m; of the words from n on nothing is said
-pub record DefinitionsBelow (s words : List ℕ) (n m : ℕ) : Type 0 where
+-- the first n words are the definitions among the rows before m
+pub record DefinitionsBefore (s words : List ℕ) (n m : ℕ) : Type 0 where
   pub few : n ≤ m
   pub rows : (k : ℕ) → k < n → getD words k 0 < m
   pub defined : (k : ℕ) → k < n → isDefinition s (getD words k 0) ≡ true
@@ -18,4 +18,4 @@ pub record DefinitionsBelow (s words : List ℕ) (n m : ℕ) : Type 0 where
   pub every : (d : ℕ) → d < m → isDefinition s d ≡ true → (k : ℕ) × (k < n) × (getD words k 0 ≡ d)
 
 abbrev pub Definitions : List ℕ → List ℕ → ℕ → Type 0
-Definitions s words n = DefinitionsBelow s words n (rowsOf s)
+Definitions s words n = DefinitionsBefore s words n (rowsOf s)

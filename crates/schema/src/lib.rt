@@ -3,8 +3,8 @@
 use tables::Checked;
 ghost use mathlib.Core.Path.{_≡_};
 ghost use mathlib.Core.Bool.{cond};
-ghost use Prim.Native.Nat.{_≤_};
-ghost use lib.ListN.{length};
+ghost use Prim.Native.Nat.{_+_, _≤_, _<_};
+ghost use lib.ListN.{length, set, drop};
 ghost use Rattle.tables.specs.Answers.{Finds};
 ghost use Rattle.schema.specs.Rows.{rowsOf, kindOf, aOf, bOf, shape, shapeOf, sortOf, names, childA, childB, isPattern, isClass, isElement};
 ghost use Rattle.schema.specs.RowRule.{maxRows, fieldRight, SizeFault};
@@ -308,28 +308,31 @@ pub fn field_right(strings: usize, schema: &[u32], p: u32, field: Field, x: u32)
     }
 }
 
-// 1 for a definition, and 0 for another row.
-fn definition_count(schema: &[u32], d: u32) -> u32
-    ensures { λ n. ⌜ n ≡ cond (isDefinition (now (schema .entry)) d) 1 0 ⌝ }
+// Row d becomes word n where it is a definition; how many definitions there are then, when there were n.
+fn add_definition(schema: &[u32], d: u32, n: u32, rows: &mut [u32]) -> u32
+    requires { ⌜ n < maxRows ⌝ }
+    ensures { λ m. ⌜ m ≡ n + cond (isDefinition (now (schema .entry)) d) 1 0 ⌝ }
+    ensures stored { λ _. ⌜ now (rows .exit) ≡ cond (isDefinition (now (schema .entry)) d) (set (now (rows .entry)) n d) (now (rows .entry)) ⌝ }
 {
     if kind(schema, d) == ELEMENT {
-        return 1;
+        tables::put_u32(rows, n as usize, d);
+        return n + 1;
     }
-    0
+    n
 }
 
-// The rows of the definitions at the front of rows, in rising order, and how many there are.
-// What the words after them hold is left open.
+// The rows of the definitions at the front of rows, in rising order, and how many there are. The words after them are as
+// they were.
 pub fn definitions(schema: &[u32], rows: &mut [u32]) -> u32
     requires { ⌜ (rowsOf (now schema) ≤ maxRows) × (maxRows ≤ length (now rows)) ⌝ }
     ensures { λ n. ⌜ Definitions (now (schema .entry)) (now (rows .exit)) n ⌝ }
+    ensures rest { λ n. ⌜ drop n (now (rows .exit)) ≡ drop n (now (rows .entry)) ⌝ }
 {
     let all = schema.len() / 3;
     let mut n: u32 = 0;
     let mut d: u32 = 0;
     while (d as usize) < all {
-        rows[n as usize] = d;
-        n += definition_count(schema, d);
+        n = add_definition(schema, d, n, rows);
         d += 1;
     }
     n

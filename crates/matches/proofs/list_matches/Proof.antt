@@ -26,14 +26,14 @@ cast-n c = search needs
 array-share-prefix-rows : tie.Need-array-share-prefix-rows
 array-share-prefix-rows c =
     let few = few-rows (right-size (c .before .before .before .before .before .before .before .before .before .before .before .before .before .before .pre .pass .schema .rows)) in
-    let n = c .before .before .definitions .ensures .few in
+    let n = c .before .before .definitions .ensures .0 .few in
     let l = c .before .rows2 .given in
     omega arith
 
 slice-aggregate-list-pairs : tie.Need-slice-aggregate-list-pairs
 slice-aggregate-list-pairs c =
     let few = few-rows (right-size (c .before .before .before .before .before .before .before .before .before .before .before .before .before .before .before .pre .pass .schema .rows)) in
-    let n = c .before .before .before .definitions .ensures .few in
+    let n = c .before .before .before .definitions .ensures .0 .few in
     let l = c .before .before .rows2 .given in
     sym (length-take-le (c .before .before .before .definitions .result) (c .before .before .before .definitions .last .1 .0) (omega arith))
 
@@ -43,7 +43,7 @@ cast-list-pairs c = let few = nodes-few (c .before .before .before .before .befo
 list-pairs-requires : tie.Need-list-pairs-requires
 list-pairs-requires c κs =
     let few = few-rows (right-size (c .before .before .before .before .before .before .before .before .before .before .before .before .before .before .before .before .pre .pass .schema .rows)) in
-    let n = c .before .before .before .before .definitions .ensures .few in
+    let n = c .before .before .before .before .definitions .ensures .0 .few in
     let l = c .before .before .before .rows2 .given in
     (nodes-few (c .before .before .before .before .before .before .before .before .before .before .before .before .before .before .before .before .pre .pass), rw (length-take-le (c .before .before .before .before .definitions .result) (c .before .before .before .before .definitions .last .1 .0) (omega arith)) (omega arith))
 
@@ -62,10 +62,10 @@ same-length-2 c = search needs
 returns : tie.Need-returns
 returns c =
     let few = few-rows (right-size (c .before .before .before .before .before .before .before .before .before .before .before .before .before .before .before .before .before .before .before .before .before .pre .pass .schema .rows)) in
-    let n = c .before .before .before .before .before .before .before .before .before .definitions .ensures .few in
+    let n = c .before .before .before .before .before .before .before .before .before .definitions .ensures .0 .few in
     let l = c .before .before .before .before .before .before .before .before .rows2 .given in
     let right = c .before .before .before .before .before .before .before .before .before .before .before .before .before .pair-table .ensures in
-    too-short (c .before .before .before .before .before .before .before .before .before .before .before .before .before .before .before .before .before .before .before .before .before .pre .pass) right (c .before .before .before .before .before .before .before .before .before .definitions .ensures) (omega arith) (c .before .before .before .before .list-pairs .ensures) (c .enum-told .given .1)
+    too-short (c .before .before .before .before .before .before .before .before .before .before .before .before .before .before .before .before .before .before .before .before .before .pre .pass) right (c .before .before .before .before .before .before .before .before .before .definitions .ensures .0) (omega arith) (c .before .before .before .before .list-pairs .ensures) (c .enum-told .given .1)
 
 valid-requires : tie.Need-valid-requires
 valid-requires c κs = record { strings = _; instance = _; pass = c .before .before .before .before .before .before .before .before .before .before .before .before .before .before .before .before .before .before .before .before .before .before .before .pre .pass; right = c .before .before .before .before .before .before .before .before .before .before .before .before .before .before .before .pair-table .ensures }
@@ -79,10 +79,10 @@ same-length-4 c = search needs
 returns-2 : tie.Need-returns-2
 returns-2 c =
     let few = few-rows (right-size (c .before .before .before .before .before .before .before .before .before .before .before .before .before .before .before .before .before .before .before .before .before .before .before .before .before .pre .pass .schema .rows)) in
-    let n = c .before .before .before .before .before .before .before .before .before .before .before .before .before .definitions .ensures .few in
+    let n = c .before .before .before .before .before .before .before .before .before .before .before .before .before .definitions .ensures .0 .few in
     let l = c .before .before .before .before .before .before .before .before .before .before .before .before .rows2 .given in
     let right = c .before .before .before .before .before .before .before .before .before .before .before .before .before .before .before .before .before .pair-table .ensures in
-    is-valid (c .before .before .before .before .before .before .before .before .before .before .before .before .before .before .before .before .before .before .before .before .before .before .before .before .before .pre .pass) right (c .before .before .before .before .before .before .before .before .before .before .before .before .before .definitions .ensures) (omega arith) (c .before .before .before .before .before .before .before .before .list-pairs .ensures) (c .before .before .before .before .listed .given .1) (subst (Decides _) (c .if1 .taken) (c .before .valid .ensures .tells _ _ (c .before .before .before .before .before .before .before .before .before .before .before .before .before .before .before .before .before .before .before .before .before .before .before .before .before .pre .pass) right))
+    is-valid (c .before .before .before .before .before .before .before .before .before .before .before .before .before .before .before .before .before .before .before .before .before .before .before .before .before .pre .pass) right (c .before .before .before .before .before .before .before .before .before .before .before .before .before .definitions .ensures .0) (omega arith) (c .before .before .before .before .before .before .before .before .list-pairs .ensures) (c .before .before .before .before .listed .given .1) (subst (Decides _) (c .if1 .taken) (c .before .valid .ensures .tells _ _ (c .before .before .before .before .before .before .before .before .before .before .before .before .before .before .before .before .before .before .before .before .before .before .before .before .before .pre .pass) right))
 
 same-length-5 : tie.Need-same-length-5
 same-length-5 c = search needs
@@ -93,10 +93,10 @@ same-length-6 c = search needs
 returns-3 : tie.Need-returns-3
 returns-3 c =
     let few = few-rows (right-size (c .before .before .before .before .before .before .before .before .before .before .before .before .before .before .before .before .before .before .before .before .before .before .before .before .before .pre .pass .schema .rows)) in
-    let n = c .before .before .before .before .before .before .before .before .before .before .before .before .before .definitions .ensures .few in
+    let n = c .before .before .before .before .before .before .before .before .before .before .before .before .before .definitions .ensures .0 .few in
     let l = c .before .before .before .before .before .before .before .before .before .before .before .before .rows2 .given in
     let right = c .before .before .before .before .before .before .before .before .before .before .before .before .before .before .before .before .before .pair-table .ensures in
-    not-valid (c .before .before .before .before .before .before .before .before .before .before .before .before .before .before .before .before .before .before .before .before .before .before .before .before .before .pre .pass) right (c .before .before .before .before .before .before .before .before .before .before .before .before .before .definitions .ensures) (omega arith) (c .before .before .before .before .before .before .before .before .list-pairs .ensures) (c .before .before .before .before .listed .given .1) (subst (Decides _) (c .if1 .left) (c .before .valid .ensures .tells _ _ (c .before .before .before .before .before .before .before .before .before .before .before .before .before .before .before .before .before .before .before .before .before .before .before .before .before .pre .pass) right))
+    not-valid (c .before .before .before .before .before .before .before .before .before .before .before .before .before .before .before .before .before .before .before .before .before .before .before .before .before .pre .pass) right (c .before .before .before .before .before .before .before .before .before .before .before .before .before .definitions .ensures .0) (omega arith) (c .before .before .before .before .before .before .before .before .list-pairs .ensures) (c .before .before .before .before .listed .given .1) (subst (Decides _) (c .if1 .left) (c .before .valid .ensures .tells _ _ (c .before .before .before .before .before .before .before .before .before .before .before .before .before .before .before .before .before .before .before .before .before .before .before .before .before .pre .pass) right))
 
 pub list-matches-spec : {M : Type 1} → statement M
 list-matches-spec =

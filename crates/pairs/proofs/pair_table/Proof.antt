@@ -56,14 +56,14 @@ slice-aggregate-pair-all-3 c = search needs
 
 array-share-prefix-rows : tie.Need-array-share-prefix-rows
 array-share-prefix-rows c =
-    let n = c .before .before .before .before .definitions .ensures .few in
+    let n = c .before .before .before .before .definitions .ensures .0 .few in
     let few = few-rows (right-size (c .before .before .before .before .before .before .before .before .before .before .before .before .before .before .before .before .before .before .before .before .before .before .pre .pass .schema .rows)) in
     let l = c .before .before .before .rows2 .given in
     omega arith
 
 slice-aggregate-pair-all-4 : tie.Need-slice-aggregate-pair-all-4
 slice-aggregate-pair-all-4 c =
-    let n = c .before .before .before .before .before .definitions .ensures .few in
+    let n = c .before .before .before .before .before .definitions .ensures .0 .few in
     let few = few-rows (right-size (c .before .before .before .before .before .before .before .before .before .before .before .before .before .before .before .before .before .before .before .before .before .before .before .pre .pass .schema .rows)) in
     let l = c .before .before .before .before .rows2 .given in
     sym (length-take-le (c .before .before .before .before .before .definitions .result) (c .before .before .before .before .before .definitions .last .1 .0) (omega arith))
@@ -90,13 +90,13 @@ pair-all-requires : tie.Need-pair-all-requires
 pair-all-requires c κs =
     let pass = c .before .before .before .before .before .before .before .before .before .before .before .before .before .before .before .before .before .before .before .before .before .before .before .before .before .before .before .before .before .before .pre .pass in
     let few = few-rows (right-size (pass .schema .rows)) in
-    let n = c .before .before .before .before .before .before .before .before .before .before .before .before .definitions .ensures .few in
+    let n = c .before .before .before .before .before .before .before .before .before .before .before .before .definitions .ensures .0 .few in
     let l = c .before .before .before .before .before .before .before .before .before .before .before .rows2 .given in
     let room = c .before .before .before .before .before .before .before .before .before .before .before .before .before .before .before .before .before .before .before .before .before .before .before .before .before .before .before .before .before .before .pre .room in
     let size = c .before .before .before .before .before .before .before .before .before .before .before .before .before .before .before .before .before .before .before .before .before .before .pairs .given in (
       record { for-marks = omega arith; for-named = omega arith; for-taken = omega arith; for-single = omega arith; for-work = omega arith },
       record { strings = _; filling = filling-start (length (now (c .before .before .before .before .before .before .before .before .before .before .before .before .before .before .before .before .before .before .before .before .before .before .before .before .before .before .before .before .before .before .args .pairs))) pass (c .before .before .before .before .before .before .before .before .before .before .before .before .before .before .before .before .before .fill .ensures) (c .before .before .before .before .before .before .before .before .before .before .before .before .before .before .before .before .before .before .before .before .before .before .before .zero-u8 .ensures); room = omega arith; room-items = omega arith },
-      definitions-part (omega arith) (c .before .before .before .before .before .before .before .before .before .before .before .before .definitions .ensures),
+      definitions-part (omega arith) (c .before .before .before .before .before .before .before .before .before .before .before .before .definitions .ensures .0),
     )
 
 same-length : tie.Need-same-length
