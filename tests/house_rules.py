@@ -65,8 +65,8 @@ CALLS = {
     "relaxng::least_common_name",
     "relaxng::match_list",
     "strings::string_text",
-    "reader::read_job",
-    "writer::write_job",
+    "job_reader::read_job",
+    "job_writer::write_job",
     "report::report",
 }
 called = set()

@@ -14,14 +14,14 @@ use Rattle.tables.specs.declared.Verdict.{Verdict}
 use Rattle.instance.specs.Nodes.{nodesOf}
 use Rattle.instance.specs.NodeRule.{maxNodes}
 use Rattle.instance.specs.Width.{WidthFault}
-use Rattle.jobs.specs.Reading.{readJob}
-use Rattle.lines.specs.Promises.{Room, OutputsHold}
-use Rattle.reader.specs.Promises.{readVerdict, given, JobAnswer}
-use Rattle.reader.specs.declared.JobRead.{JobRead}
-use Rattle.reader.specs.declared.JobRead.the-variants.{Read, NotRead}
-use Rattle.writer.specs.Promises.{writtenVerdict, WriteJob}
-use Rattle.writer.specs.declared.JobWritten.{JobWritten}
-use Rattle.writer.specs.declared.JobWritten.the-variants.{Written, NotWritten}
+use Rattle.job.specs.Reading.{readJob}
+use Rattle.job_lines.specs.Promises.{Room, OutputsHold}
+use Rattle.job_reader.specs.Promises.{readVerdict, given, JobAnswer}
+use Rattle.job_reader.specs.declared.JobRead.{JobRead}
+use Rattle.job_reader.specs.declared.JobRead.the-variants.{Read, NotRead}
+use Rattle.job_writer.specs.Promises.{writtenVerdict, WriteJob}
+use Rattle.job_writer.specs.declared.JobWritten.{JobWritten}
+use Rattle.job_writer.specs.declared.JobWritten.the-variants.{Written, NotWritten}
 use Rattle.relaxng.specs.Answers.{membershipVerdict, commonVerdict}
 use Rattle.relaxng.specs.Promises.{SchemaRefusal, NameInClass, LeastCommonName}
 use Rattle.relaxng.specs.declared.Membership.{Membership}

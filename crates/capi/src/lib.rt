@@ -1,10 +1,10 @@
 // The calls that programs in C or Rust make, the tests among them: numbers and slices alone.
-use reader::JobRead;
+use job_reader::JobRead;
+use job_writer::JobWritten;
 use relaxng::CommonName;
 use relaxng::Membership;
 use tables::Checked;
 use tables::Verdict;
-use writer::JobWritten;
 ghost use mathlib.Core.Path.{_≡_};
 ghost use Prim.Native.Nat.{_+_, _*_};
 ghost use lib.ListN.{length};
@@ -13,7 +13,7 @@ ghost use Rattle.tables.specs.Answers.{Decides, Finds};
 ghost use Rattle.tables.specs.Tables.{stringTable, tablesOf};
 ghost use Rattle.strings.specs.Strings.{StringFault};
 ghost use Rattle.instance.specs.NodeRule.{NodeFault};
-ghost use Rattle.lines.specs.Promises.{roomOf};
+ghost use Rattle.job_lines.specs.Promises.{roomOf};
 ghost use Rattle.datatypes.specs.Whitespace.{whitespace, stringEqual, tokenEqual};
 ghost use Rattle.capi.specs.Packed.{packedVerdict, packedMembership, packedName, nameWords, PackedCheck, CopiedText, PackedSchema, PackedMember, PackedLeast, WideTable, packedWritten, PackedWrite, packedRead, readCounts, PackedRead};
 
@@ -146,7 +146,7 @@ pub extern "C" fn farshavan_least_common_name(
 pub extern "C" fn farshavan_check_nodes(strings: usize, instance: &[u32]) -> u64
     ensures { λ r. ⌜ PackedCheck 9 (NodeFault strings (now (instance .entry))) r ⌝ }
 {
-    pack_verdict(tables::refusal(9, nodes::check_nodes(strings, instance)))
+    pack_verdict(tables::refusal(9, instance_nodes::check_nodes(strings, instance)))
 }
 
 // Code 10 on any table.
@@ -156,7 +156,7 @@ fn check_width(instance: &[u32]) -> Checked
     if instance::MAX_NODES < instance.len() / 5 {
         return Checked::Fault(0);
     }
-    nodes::check_width(instance)
+    instance_nodes::check_width(instance)
 }
 
 #[no_mangle]
@@ -185,7 +185,7 @@ pub extern "C" fn farshavan_write_job(
 ) -> u64
     ensures { λ r. ⌜ PackedWrite (tablesOf (stringTable (now (bytes .entry)) (now (ends .entry))) (now (schema .entry)) (now (instance .entry))) (length (now (out .entry))) (now (out .exit)) r ⌝ }
 {
-    pack_written(writer::write_job(bytes, ends, schema, instance, out))
+    pack_written(job_writer::write_job(bytes, ends, schema, instance, out))
 }
 
 fn pack_read(answer: JobRead) -> u64
@@ -221,7 +221,7 @@ pub extern "C" fn farshavan_read_job(
 ) -> u64
     ensures { λ r. ⌜ PackedRead (now (file .entry)) (roomOf (now (bytes .entry)) (now (ends .entry)) (now (schema .entry)) (now (instance .entry))) (now (bytes .exit)) (now (ends .exit)) (now (schema .exit)) (now (instance .exit)) (now (counts .entry)) (now (counts .exit)) r ⌝ }
 {
-    let answer = reader::read_job(file, bytes, ends, schema, instance);
+    let answer = job_reader::read_job(file, bytes, ends, schema, instance);
     lay_counts(answer, counts);
     pack_read(answer)
 }

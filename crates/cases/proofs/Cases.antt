@@ -6,12 +6,12 @@ use Rattle.schema.specs.Falling.{upto}
 use Rattle.schema.specs.Rows.{shapeOf}
 use Rattle.schema.specs.RowRule.{usesBefore}
 use Rattle.schema.specs.Views.{patternBy, classBy}
-use Rattle.classes.specs.Membership as class
+use Rattle.schema_classes.specs.Membership as class
 use Rattle.instance.specs.Elements.{rowsWhere}
 use Rattle.instance.specs.NodeRule.{fieldsRight}
 use Rattle.instance.specs.Width.{howMany}
-use Rattle.sequences.specs.TypeTable.{typeBy, clashBy}
-use Rattle.rules.specs.Spans.{run}
+use Rattle.schema_sequences.specs.TypeTable.{typeBy, clashBy}
+use Rattle.matching_rules.specs.Spans.{run}
 use Rattle.cases.specs.Meaning.{AllHold}
 use Rattle.cases.specs.Table.{table}
 use Rattle.cases.proofs.Tests.{everyBelow, someBelow}

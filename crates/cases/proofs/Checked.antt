@@ -19,14 +19,14 @@ use Rattle.instance.specs.Nodes.{nodesOf}
 use Rattle.instance.specs.NodeRule.{NodesRight}
 use Rattle.instance.proofs.Size.{some-node}
 use Rattle.instance.specs.Elements.{isElement}
-use Rattle.restrictions.specs.Schema.{SchemaPasses}
-use Rattle.restrictions.proofs.Passes.{passes}
+use Rattle.schema_restrictions.specs.Schema.{SchemaPasses}
+use Rattle.schema_restrictions.proofs.Passes.{passes}
 use Rattle.relaxng.specs.Promises.{SchemaRefusal}
-use Rattle.rules.specs.Job.{lookups, Pair, Valid}
-use Rattle.rules.specs.Listed.{Precedes, Rising, rising-none, rising-one, rising-more, Lists}
-use Rattle.rules.specs.Rules.{Proved, NotMatchBy}
+use Rattle.matching_rules.specs.Job.{lookups, Pair, Valid}
+use Rattle.matching_rules.specs.Listed.{Precedes, Rising, rising-none, rising-one, rising-more, Lists}
+use Rattle.matching_rules.specs.Rules.{Proved, NotMatchBy}
 use Rattle.tables.proofs.Booleans.{or-either, and-left, and-right}
-use Rattle.rules.proofs.Inversion.{against}
+use Rattle.matching_rules.proofs.Inversion.{against}
 use Rattle.cases.specs.Meaning.{tablesAt, Expected, matches, least, refused, Row, IsValid, NotRefused, Matching, CaseSays, CaseHolds, AllHold, none-left, holds}
 use Rattle.cases.proofs.Tests.{everyBelow, every-below, no-of}
 use Rattle.cases.proofs.ClassTests.{leastTest, least-test}

@@ -10,10 +10,10 @@ use lib.Dec.{eqb, ltb}
 use borrow.Author.Tests.{eqb-true, lt-ltb, ltb-true}
 use Rattle.tables.proofs.Numbers.{not-less}
 use Rattle.schema.specs.RowRule.{RowsRight}
-use Rattle.classes.specs.Membership.{inClass}
-use Rattle.classes.specs.Least.{Common, NotAfter, LeastCommon}
-use Rattle.classes.specs.declared.Found.the-variants.{Name}
-use Rattle.classes.proofs.SmallNames.{small-name}
+use Rattle.schema_classes.specs.Membership.{inClass}
+use Rattle.schema_classes.specs.Least.{Common, NotAfter, LeastCommon}
+use Rattle.schema_classes.specs.declared.Found.the-variants.{Name}
+use Rattle.schema_classes.proofs.SmallNames.{small-name}
 use Rattle.tables.proofs.Booleans.{or-either, and-left, and-right, both-and}
 use Rattle.cases.proofs.Tests.{everyBelow, every-below, someBelow, some-below, below-some, no-of}
 

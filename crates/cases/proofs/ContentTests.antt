@@ -11,10 +11,10 @@ use Rattle.schema.specs.Relations.{by-a, by-b}
 use Rattle.schema.specs.RowRule.{SizeRight}
 use Rattle.schema.proofs.Children.{child-less}
 use Rattle.schema.proofs.RowLaws.{few-rows}
-use Rattle.sequences.specs.Content.{SequenceFault}
-use Rattle.sequences.specs.TypeTable.{noType, typeBy, clashBy, TypeIs}
-use Rattle.sequences.proofs.Types.{type-is, clash-decides}
-use Rattle.sequences.proofs.TypeTables.{no-row-type}
+use Rattle.schema_sequences.specs.Content.{SequenceFault}
+use Rattle.schema_sequences.specs.TypeTable.{noType, typeBy, clashBy, TypeIs}
+use Rattle.schema_sequences.proofs.Types.{type-is, clash-decides}
+use Rattle.schema_sequences.proofs.TypeTables.{no-row-type}
 
 module _ (s : List ℕ) where
   -- the type of a child that a field names, by the types of smaller rows

@@ -4,11 +4,11 @@ use mathlib.Core.Bool.{Bool, true, false, not, _&&_, _||_}
 use mathlib.Core.List.{List, [], _∷_}
 use lib.Dec.{eqb, ltb}
 use Rattle.schema.specs.Views.{Pattern, empty, notAllowed, text, dataAll, dataExcept, value, attribute, ref, oneOrMore, choice, group, interleave, noPattern}
-use Rattle.rules.specs.Items.{Item, element, string, Attributes, noAttributes, only, Lookups}
-use Rattle.rules.proofs.Booleans.{_∩_, _∖_}
-use Rattle.rules.specs.Reach.{namesAttribute, takes}
-use Rattle.rules.specs.Spans.{run}
-use Rattle.rules.proofs.Sequences.{hasElement}
+use Rattle.matching_rules.specs.Items.{Item, element, string, Attributes, noAttributes, only, Lookups}
+use Rattle.matching_rules.proofs.Booleans.{_∩_, _∖_}
+use Rattle.matching_rules.specs.Reach.{namesAttribute, takes}
+use Rattle.matching_rules.specs.Spans.{run}
+use Rattle.matching_rules.proofs.Sequences.{hasElement}
 use Rattle.cases.proofs.Tests.{everyBelow, someBelow}
 use Rattle.cases.proofs.ReachTests.{reachTest}
 use Rattle.cases.proofs.ClosureTests.{plusTest}

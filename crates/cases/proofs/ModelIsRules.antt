@@ -11,22 +11,22 @@ use Rattle.tables.proofs.Numbers.{not-less}
 use Rattle.schema.specs.Views.{Pattern}
 use Rattle.schema.specs.Views as pattern
 use Rattle.relations.specs.Relations.{Plus, Then}
-use Rattle.rules.specs.Items.{Item, element, string, Attributes, noAttributes, only, Lookups}
-use Rattle.rules.specs.Rules.{Match, WeakMatch, NotMatchBy}
+use Rattle.matching_rules.specs.Items.{Item, element, string, Attributes, noAttributes, only, Lookups}
+use Rattle.matching_rules.specs.Rules.{Match, WeakMatch, NotMatchBy}
 use Rattle.tables.proofs.Booleans.{and-left, and-right}
-use Rattle.rules.proofs.Booleans.{_∩_, _∖_}
-use Rattle.rules.proofs.Groups.{Tells, span-group, span-interleave}
-use Rattle.rules.specs.Spans.{Paired, CleanAt, Distinct, run, Span}
-use Rattle.rules.proofs.Inversion.{One, AttributeMatch}
-use Rattle.rules.proofs.Occurrences.{clean-part}
-use Rattle.rules.proofs.OneElement.{strings-clean, weak-string}
-use Rattle.rules.proofs.Positions.{among-run}
-use Rattle.rules.specs.Reach.{Subpattern, operand, of-attribute, of-except, repeated, choice-first, choice-second, group-first, group-second, interleave-first, interleave-second, Reaches, namesAttribute, takes}
-use Rattle.rules.proofs.Repeats.{distinct-part, span-oneOrMore, span-oneOrMore-attributes}
-use Rattle.rules.specs.Restricted.{Restricted}
-use Rattle.rules.proofs.Sequences.{hasElement, first}
-use Rattle.rules.proofs.Spans.{ItemsOnly, span-whole, span-nowhere, span-notAllowed, span-noPattern, span-empty, span-text, items-only, OnePaired, span-ref, span-attribute, span-choice}
-use Rattle.rules.proofs.Strata.{not-match}
+use Rattle.matching_rules.proofs.Booleans.{_∩_, _∖_}
+use Rattle.matching_rules.proofs.Groups.{Tells, span-group, span-interleave}
+use Rattle.matching_rules.specs.Spans.{Paired, CleanAt, Distinct, run, Span}
+use Rattle.matching_rules.proofs.Inversion.{One, AttributeMatch}
+use Rattle.matching_rules.proofs.Occurrences.{clean-part}
+use Rattle.matching_rules.proofs.OneElement.{strings-clean, weak-string}
+use Rattle.matching_rules.proofs.Positions.{among-run}
+use Rattle.matching_rules.specs.Reach.{Subpattern, operand, of-attribute, of-except, repeated, choice-first, choice-second, group-first, group-second, interleave-first, interleave-second, Reaches, namesAttribute, takes}
+use Rattle.matching_rules.proofs.Repeats.{distinct-part, span-oneOrMore, span-oneOrMore-attributes}
+use Rattle.matching_rules.specs.Restricted.{Restricted}
+use Rattle.matching_rules.proofs.Sequences.{hasElement, first}
+use Rattle.matching_rules.proofs.Spans.{ItemsOnly, span-whole, span-nowhere, span-notAllowed, span-noPattern, span-empty, span-text, items-only, OnePaired, span-ref, span-attribute, span-choice}
+use Rattle.matching_rules.proofs.Strata.{not-match}
 use Rattle.cases.proofs.Tests.{someBelow, some-below, below-some}
 use Rattle.cases.proofs.ReachTests.{test-reach, reach-test}
 use Rattle.cases.proofs.ClosureTests.{plusTest, test-plus, plus-test}

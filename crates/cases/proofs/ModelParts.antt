@@ -7,10 +7,10 @@ use mathlib.Core.Logic.{_⊎_, inl, inr, _↔_}
 use native.Mathlib.Omega.{arith}
 use lib.Dec.{eqb}
 use borrow.Author.Tests.{eqb-true, eq-eqb, not-true}
-use Rattle.rules.specs.Items.{Item, element, string, Attributes, noAttributes, only}
+use Rattle.matching_rules.specs.Items.{Item, element, string, Attributes, noAttributes, only}
 use Rattle.tables.proofs.Booleans.{or-either, or-left, or-right, and-left, and-right, both-and, is-false}
-use Rattle.rules.proofs.Booleans.{no-member, sole-member}
-use Rattle.rules.proofs.Inversion.{One}
+use Rattle.matching_rules.proofs.Booleans.{no-member, sole-member}
+use Rattle.matching_rules.proofs.Inversion.{One}
 use Rattle.cases.proofs.Tests.{everyBelow, every-below, below-every, someBelow, some-below, below-some}
 use Rattle.cases.proofs.Model.{noItem, oneItem, onString, onElement}
 

@@ -20,21 +20,21 @@ use Rattle.schema.proofs.Sorts.{definition-kind}
 use Rattle.instance.specs.Nodes.{nodesOf}
 use Rattle.instance.specs.NodeRule.{NodesRight}
 use Rattle.instance.proofs.Elements.{attribute-later, attributes-differ}
-use Rattle.restrictions.specs.Schema.{SchemaPasses}
-use Rattle.rules.specs.Items.{Item, element, string, Attributes, noAttributes, Lookups}
-use Rattle.rules.specs.Rules.{OkAsChildren, Match, WeakMatch, NotMatchBy}
-use Rattle.rules.specs.Job.{datatypeEqual, lookups, startRow, Valid}
+use Rattle.schema_restrictions.specs.Schema.{SchemaPasses}
+use Rattle.matching_rules.specs.Items.{Item, element, string, Attributes, noAttributes, Lookups}
+use Rattle.matching_rules.specs.Rules.{OkAsChildren, Match, WeakMatch, NotMatchBy}
+use Rattle.matching_rules.specs.Job.{datatypeEqual, lookups, startRow, Valid}
 use Rattle.tables.proofs.Booleans.{and-left, and-right, both-and}
-use Rattle.rules.proofs.Children.{children-ok, child-element}
-use Rattle.rules.specs.Spans.{Paired, Distinct, run}
-use Rattle.rules.proofs.OneElement.{no-element, stripped-clean, weak-empty, weak-string, weak-span}
-use Rattle.rules.proofs.Passing.{restricted}
-use Rattle.rules.proofs.Paths.{start-child}
-use Rattle.rules.specs.Restricted.{Restricted}
-use Rattle.rules.proofs.Runs.{run-list}
-use Rattle.rules.proofs.Sequences.{hasElement}
-use Rattle.rules.proofs.Spans.{span-whole}
-use Rattle.rules.proofs.Stripping.{notWhitespace}
+use Rattle.matching_rules.proofs.Children.{children-ok, child-element}
+use Rattle.matching_rules.specs.Spans.{Paired, Distinct, run}
+use Rattle.matching_rules.proofs.OneElement.{no-element, stripped-clean, weak-empty, weak-string, weak-span}
+use Rattle.matching_rules.proofs.Passing.{restricted}
+use Rattle.matching_rules.proofs.Paths.{start-child}
+use Rattle.matching_rules.specs.Restricted.{Restricted}
+use Rattle.matching_rules.proofs.Runs.{run-list}
+use Rattle.matching_rules.proofs.Sequences.{hasElement}
+use Rattle.matching_rules.proofs.Spans.{span-whole}
+use Rattle.matching_rules.proofs.Stripping.{notWhitespace}
 use Rattle.cases.proofs.StringTests.{sameText, same-text, text-same}
 use Rattle.cases.proofs.Model.{Test, all, stringTest, nothingTest, spanTest}
 use Rattle.cases.proofs.ModelParts.{both-decide, either-decides, Bound}

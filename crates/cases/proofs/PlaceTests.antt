@@ -12,9 +12,9 @@ use Rattle.schema.specs.Rows.{rowsOf, kindOf, shapeOf}
 use Rattle.schema.specs.Relations.{Child, by-a, by-b, Below, child, deeper}
 use Rattle.schema.specs.RowRule.{maxRows, usesBefore, rowRight, SizeFault, no-row, too-many-rows, broken-length, bad-size, bad-row, RowsRight}
 use Rattle.schema.proofs.RowLaws.{in-table, right-size}
-use Rattle.places.specs.Places.{holdsWhole, emptyFits, PlaceFault, notAllowed-inside, empty-inside}
-use Rattle.places.specs.Names.{NameFault, anyName-in-anyName, anyName-in-nsName, nsName-in-nsName}
-use Rattle.places.specs.Paths.{sharingKind, notInAttribute, notInExcept, notInStart, PathFault, in-attribute, in-repeated-sharing, in-except, in-start}
+use Rattle.schema_places.specs.Places.{holdsWhole, emptyFits, PlaceFault, notAllowed-inside, empty-inside}
+use Rattle.schema_places.specs.Names.{NameFault, anyName-in-anyName, anyName-in-nsName, nsName-in-nsName}
+use Rattle.schema_places.specs.Paths.{sharingKind, notInAttribute, notInExcept, notInStart, PathFault, in-attribute, in-repeated-sharing, in-except, in-start}
 use Rattle.tables.proofs.Booleans.{or-left, or-right, and-left, and-right, both-and}
 use Rattle.cases.proofs.Tests.{everyBelow, every-below, no-of}
 use Rattle.cases.proofs.DescentTests.{childTest, child-test, belowTest, below-test}

@@ -4,9 +4,9 @@ use mathlib.Core.Path.{_≡_, refl, sym, _∙_, ap, subst}
 use mathlib.Core.Bool.{Bool, true, false, false≢true}
 use native.Mathlib.Omega.{arith}
 use Rattle.schema.specs.Views.{Pattern, empty, notAllowed, text, dataAll, dataExcept, value, attribute, ref, oneOrMore, choice, group, interleave, noPattern}
-use Rattle.rules.specs.Items.{Lookups}
-use Rattle.rules.specs.Reach.{Operand, repeated, choice-first, choice-second, group-first, group-second, interleave-first, interleave-second, operand, Reaches, here, there}
-use Rattle.rules.specs.Restricted.{Restricted}
+use Rattle.matching_rules.specs.Items.{Lookups}
+use Rattle.matching_rules.specs.Reach.{Operand, repeated, choice-first, choice-second, group-first, group-second, interleave-first, interleave-second, operand, Reaches, here, there}
+use Rattle.matching_rules.specs.Restricted.{Restricted}
 
 -- an operand passes the test
 abbrev either : (ℕ → Bool) → ℕ → ℕ → Bool

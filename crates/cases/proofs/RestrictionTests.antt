@@ -12,10 +12,10 @@ use Rattle.schema.specs.Rows.{rowsOf, kindOf, childA, childB}
 use Rattle.schema.specs.Relations.{Below, connective, Occurs, itself, within}
 use Rattle.schema.specs.RowRule.{RowsRight}
 use Rattle.schema.proofs.RowLaws.{in-table, right-size}
-use Rattle.classes.specs.Least.{Common}
-use Rattle.places.specs.Paths.{sharingKind}
-use Rattle.occurrences.specs.Attributes.{isWildcard, Infinite, is-wildcard, has-wildcard, AttributeFault, duplicate, not-repeated}
-use Rattle.occurrences.specs.Interleaves.{classReferred, InterleaveFault, same-element, text-twice}
+use Rattle.schema_classes.specs.Least.{Common}
+use Rattle.schema_places.specs.Paths.{sharingKind}
+use Rattle.schema_occurrences.specs.Attributes.{isWildcard, Infinite, is-wildcard, has-wildcard, AttributeFault, duplicate, not-repeated}
+use Rattle.schema_occurrences.specs.Interleaves.{classReferred, InterleaveFault, same-element, text-twice}
 use Rattle.tables.proofs.Booleans.{or-either, or-left, or-right, and-left, and-right, both-and}
 use Rattle.cases.proofs.Tests.{someBelow, below-some, no-of, guarded, unguarded}
 use Rattle.cases.proofs.DescentTests.{insideTest, occurs-test, test-occurs, belowTest, below-test, test-below}

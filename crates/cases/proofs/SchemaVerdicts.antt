@@ -15,14 +15,14 @@ use Rattle.strings.specs.Strings.{StringFault, StringsRight, schemaStrings}
 use Rattle.schema.specs.Rows.{rowsOf}
 use Rattle.schema.specs.RowRule.{RowFault, RowsRight}
 use Rattle.schema.proofs.RowLaws.{right-size}
-use Rattle.places.specs.Places.{PlaceFault}
-use Rattle.places.specs.Names.{NameFault}
-use Rattle.places.specs.Paths.{PathFault}
-use Rattle.sequences.specs.Content.{SequenceFault}
-use Rattle.occurrences.specs.Attributes.{AttributeFault}
-use Rattle.occurrences.specs.Interleaves.{InterleaveFault}
-use Rattle.sequences.proofs.TypeTables.{sequence-row}
-use Rattle.occurrences.proofs.Clashes.{attribute-row, interleave-row}
+use Rattle.schema_places.specs.Places.{PlaceFault}
+use Rattle.schema_places.specs.Names.{NameFault}
+use Rattle.schema_places.specs.Paths.{PathFault}
+use Rattle.schema_sequences.specs.Content.{SequenceFault}
+use Rattle.schema_occurrences.specs.Attributes.{AttributeFault}
+use Rattle.schema_occurrences.specs.Interleaves.{InterleaveFault}
+use Rattle.schema_sequences.proofs.TypeTables.{sequence-row}
+use Rattle.schema_occurrences.proofs.Clashes.{attribute-row, interleave-row}
 use Rattle.relaxng.specs.Promises.{SchemaRefusal}
 use Rattle.tables.proofs.Booleans.{and-left, and-right}
 use Rattle.cases.proofs.Tests.{everyBelow, every-below}

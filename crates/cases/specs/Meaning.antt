@@ -6,13 +6,13 @@ use Rattle.tables.specs.Tables.{stringTable, Tables, tablesOf}
 use Rattle.strings.specs.Strings.{instanceStrings}
 use Rattle.tables.specs.Refusals.{Passes}
 use Rattle.tables.specs.declared.Verdict.the-variants.{Passed, Refused}
-use Rattle.classes.specs.Least.{LeastCommon}
-use Rattle.classes.specs.declared.Found.the-variants.{Name}
+use Rattle.schema_classes.specs.Least.{LeastCommon}
+use Rattle.schema_classes.specs.declared.Found.the-variants.{Name}
 use Rattle.instance.specs.NodeRule.{NodesRight}
 use Rattle.instance.specs.Width.{WidthFault}
 use Rattle.relaxng.specs.Promises.{SchemaRefusal}
-use Rattle.rules.specs.Job.{Pair, Valid}
-use Rattle.rules.specs.Listed.{Rising, Lists}
+use Rattle.matching_rules.specs.Job.{Pair, Valid}
+use Rattle.matching_rules.specs.Listed.{Rising, Lists}
 
 -- what document 01 says of a case: the match list with valid or not; the least name common to the classes at two rows; a refusal of the schema by code and place
 pub data Expected : Type 0 where

@@ -21,9 +21,9 @@ use Rattle.relations.specs.Words.{WordsRelate, Is, Empty, Gap, Single, Up, fron
 use Rattle.sets.specs.Bits.{positions, bit}
 use Rattle.sets.proofs.Members.{and-has, none-has}
 use Rattle.tables.proofs.Booleans.{and-left, and-right, is-false}
-use Rattle.rules.proofs.Passing.{restricted}
-use Rattle.rules.specs.Reach.{oneString, roleOf, Operand, Subpattern, operand, repeated, choice-first, choice-second, group-first, group-second, interleave-first, interleave-second}
-use Rattle.rules.proofs.RowPatterns.{Makes, row-makes, makes-empty, makes-notAllowed, makes-text, makes-data, makes-except, makes-value, makes-attribute, makes-ref, makes-oneOrMore, makes-choice, makes-group, makes-interleave, makes-none}
+use Rattle.matching_rules.proofs.Passing.{restricted}
+use Rattle.matching_rules.specs.Reach.{oneString, roleOf, Operand, Subpattern, operand, repeated, choice-first, choice-second, group-first, group-second, interleave-first, interleave-second}
+use Rattle.matching_rules.proofs.RowPatterns.{Makes, row-makes, makes-empty, makes-notAllowed, makes-text, makes-data, makes-except, makes-value, makes-attribute, makes-ref, makes-oneOrMore, makes-choice, makes-group, makes-interleave, makes-none}
 use Rattle.matching.specs.Setting.{Setting, tablesIn, Asked, Covered, Relatable, HoldsRelated}
 use Rattle.matching.specs.Parts.{Where, OneIn, Repetition, HoldsLeaf, Shared, Operands}
 use Rattle.matching.proofs.Shares.{asked-part, operand-covered}

@@ -16,18 +16,18 @@ use Rattle.relations.specs.Relations.{Relation}
 use Rattle.relations.specs.Words.{Is, Empty, Gap, Single}
 use Rattle.relations.proofs.Words.{is-map}
 use Rattle.sets.proofs.Bits.{bit-without}
-use Rattle.rules.specs.Items.{Item, element, string, Attributes, noAttributes, only, Lookups}
-use Rattle.rules.specs.Rules.{Match, NotMatchBy}
-use Rattle.rules.specs.Job.{lookups}
+use Rattle.matching_rules.specs.Items.{Item, element, string, Attributes, noAttributes, only, Lookups}
+use Rattle.matching_rules.specs.Rules.{Match, NotMatchBy}
+use Rattle.matching_rules.specs.Job.{lookups}
 use Rattle.tables.proofs.Booleans.{and-left, and-right, is-false}
-use Rattle.rules.proofs.Booleans.{sole-member}
-use Rattle.rules.proofs.Inversion.{One}
-use Rattle.rules.proofs.Sequences.{hasElement}
-use Rattle.rules.specs.Spans.{run, Span}
-use Rattle.rules.proofs.Positions.{run-empty, run-single, run-strings}
-use Rattle.rules.specs.Reach.{oneString, roleOf, itemBy, takesAny}
-use Rattle.rules.proofs.Spans.{ItemsOnly, OnePaired, span-empty, span-text, span-string, span-ref, span-attribute, span-notAllowed, span-noPattern}
-use Rattle.marks.specs.Marks.{attributeRow, attributesIn, IsString, IsPaired, Takes, TakesAttribute}
+use Rattle.matching_rules.proofs.Booleans.{sole-member}
+use Rattle.matching_rules.proofs.Inversion.{One}
+use Rattle.matching_rules.proofs.Sequences.{hasElement}
+use Rattle.matching_rules.specs.Spans.{run, Span}
+use Rattle.matching_rules.proofs.Positions.{run-empty, run-single, run-strings}
+use Rattle.matching_rules.specs.Reach.{oneString, roleOf, itemBy, takesAny}
+use Rattle.matching_rules.proofs.Spans.{ItemsOnly, OnePaired, span-empty, span-text, span-string, span-ref, span-attribute, span-notAllowed, span-noPattern}
+use Rattle.matching_marks.specs.Marks.{attributeRow, attributesIn, IsString, IsPaired, Takes, TakesAttribute}
 use Rattle.matching.specs.Setting.{Setting, tablesIn, Asked, Related, Covered}
 use Rattle.matching.specs.Parts.{Where, OneIn}
 use Rattle.matching.proofs.Shares.{numberOf, in-row, row-in, no-attributes, attributes-none, row-covered}

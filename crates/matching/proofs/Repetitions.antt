@@ -16,15 +16,15 @@ use Rattle.relations.specs.Words.{WordsRelate, Is, Up}
 use Rattle.sets.proofs.Least.{trailing}
 use Rattle.sets.proofs.Members.{none-has}
 use Rattle.relations.proofs.Words.{is-map}
-use Rattle.rules.specs.Items.{Attributes, noAttributes, only, Lookups}
-use Rattle.rules.specs.Rules.{Match, NotMatchBy}
-use Rattle.rules.specs.Job.{lookups}
-use Rattle.rules.proofs.Passing.{restricted}
-use Rattle.rules.proofs.Positions.{run-empty}
-use Rattle.rules.proofs.Repeats.{Repeated, span-oneOrMore, span-oneOrMore-attributes}
-use Rattle.rules.specs.Restricted.{Restricted}
-use Rattle.rules.specs.Spans.{Span}
-use Rattle.marks.specs.Marks.{attributeRow, attributesIn}
+use Rattle.matching_rules.specs.Items.{Attributes, noAttributes, only, Lookups}
+use Rattle.matching_rules.specs.Rules.{Match, NotMatchBy}
+use Rattle.matching_rules.specs.Job.{lookups}
+use Rattle.matching_rules.proofs.Passing.{restricted}
+use Rattle.matching_rules.proofs.Positions.{run-empty}
+use Rattle.matching_rules.proofs.Repeats.{Repeated, span-oneOrMore, span-oneOrMore-attributes}
+use Rattle.matching_rules.specs.Restricted.{Restricted}
+use Rattle.matching_rules.specs.Spans.{Span}
+use Rattle.matching_marks.specs.Marks.{attributeRow, attributesIn}
 use Rattle.matching.specs.Setting.{Setting, tablesIn, Asked, Related, Covered}
 use Rattle.matching.specs.Parts.{Subset, Repetition}
 use Rattle.matching.proofs.Shares.{numberOf, in-row, row-in, no-attributes, row-covered}

@@ -11,15 +11,15 @@ use Rattle.schema.specs.Relations.{itself}
 use Rattle.schema.specs.Views.{Pattern, patternOf}
 use Rattle.sets.specs.Bits.{bit}
 use Rattle.sets.proofs.Bits.{bit-and, bit-without, bit-none, bit-empty}
-use Rattle.rules.specs.Items.{Attributes, noAttributes}
-use Rattle.rules.specs.Job.{lookups}
+use Rattle.matching_rules.specs.Items.{Attributes, noAttributes}
+use Rattle.matching_rules.specs.Job.{lookups}
 use Rattle.tables.proofs.Booleans.{and-left, and-right, both-and}
-use Rattle.rules.proofs.Booleans.{_∩_, _∖_}
-use Rattle.rules.proofs.Occurrences.{clean-part}
-use Rattle.rules.specs.Reach.{Operand}
-use Rattle.rules.proofs.Repeats.{distinct-part}
-use Rattle.rules.proofs.RowPatterns.{operand-occurs}
-use Rattle.marks.specs.Marks.{attributeRow, attributesIn, RowMarked}
+use Rattle.matching_rules.proofs.Booleans.{_∩_, _∖_}
+use Rattle.matching_rules.proofs.Occurrences.{clean-part}
+use Rattle.matching_rules.specs.Reach.{Operand}
+use Rattle.matching_rules.proofs.Repeats.{distinct-part}
+use Rattle.matching_rules.proofs.RowPatterns.{operand-occurs}
+use Rattle.matching_marks.specs.Marks.{attributeRow, attributesIn, RowMarked}
 use Rattle.matching.specs.Setting.{Setting, tablesIn, Asked, Covered}
 
 -- ---- the members of a word

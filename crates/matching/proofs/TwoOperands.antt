@@ -13,17 +13,17 @@ use Rattle.sets.specs.Bits.{bit}
 use Rattle.relations.specs.Relations.{Relation, Or, And, Then}
 use Rattle.relations.specs.Words.{WordsRelate, Is}
 use Rattle.relations.proofs.Words.{is-map}
-use Rattle.rules.specs.Items.{Attributes, Lookups}
-use Rattle.rules.specs.Rules.{NotMatchBy}
-use Rattle.rules.specs.Job.{lookups}
-use Rattle.rules.proofs.Booleans.{_∩_, _∖_}
-use Rattle.rules.proofs.Groups.{Tells, span-group, span-interleave}
-use Rattle.rules.proofs.Passing.{restricted}
-use Rattle.rules.specs.Reach.{Reaches, namesAttribute, takes}
-use Rattle.rules.specs.Restricted.{Restricted}
-use Rattle.rules.specs.Spans.{Span}
-use Rattle.rules.proofs.Spans.{span-choice}
-use Rattle.marks.specs.Marks.{attributesIn}
+use Rattle.matching_rules.specs.Items.{Attributes, Lookups}
+use Rattle.matching_rules.specs.Rules.{NotMatchBy}
+use Rattle.matching_rules.specs.Job.{lookups}
+use Rattle.matching_rules.proofs.Booleans.{_∩_, _∖_}
+use Rattle.matching_rules.proofs.Groups.{Tells, span-group, span-interleave}
+use Rattle.matching_rules.proofs.Passing.{restricted}
+use Rattle.matching_rules.specs.Reach.{Reaches, namesAttribute, takes}
+use Rattle.matching_rules.specs.Restricted.{Restricted}
+use Rattle.matching_rules.specs.Spans.{Span}
+use Rattle.matching_rules.proofs.Spans.{span-choice}
+use Rattle.matching_marks.specs.Marks.{attributesIn}
 use Rattle.matching.specs.Setting.{Setting, tablesIn, Asked, Related, Covered}
 use Rattle.matching.proofs.Shares.{bits-both, bits-without, numberOf, hasRow, in-row, attributes-both, attributes-without, row-covered}
 

@@ -7,17 +7,17 @@ use lib.ListN.{length}
 use Rattle.tables.specs.Tables.{StringTable, Tables, tablesOf}
 use Rattle.strings.specs.Strings.{schemaStrings}
 use Rattle.schema.specs.Rows.{rowsOf}
-use Rattle.restrictions.specs.Schema.{SchemaPasses}
+use Rattle.schema_restrictions.specs.Schema.{SchemaPasses}
 use Rattle.sets.specs.Bits.{positions, bit}
 use Rattle.relations.specs.Relations.{Relation}
 use Rattle.relations.specs.Words.{Is}
-use Rattle.rules.specs.Items.{Item}
-use Rattle.rules.specs.Rules.{NotMatchBy}
-use Rattle.rules.specs.Job.{lookups}
-use Rattle.rules.specs.Spans.{CleanAt}
-use Rattle.rules.specs.Spans.{Distinct}
-use Rattle.rules.specs.Spans.{Span}
-use Rattle.marks.specs.Marks.{attributesIn, PatternMarked}
+use Rattle.matching_rules.specs.Items.{Item}
+use Rattle.matching_rules.specs.Rules.{NotMatchBy}
+use Rattle.matching_rules.specs.Job.{lookups}
+use Rattle.matching_rules.specs.Spans.{CleanAt}
+use Rattle.matching_rules.specs.Spans.{Distinct}
+use Rattle.matching_rules.specs.Spans.{Span}
+use Rattle.matching_marks.specs.Marks.{attributesIn, PatternMarked}
 
 -- an element, for a schema that passes: its attributes and items
 pub record Setting (s : List ℕ) : Type 0 where

@@ -19,12 +19,12 @@ use Rattle.instance.specs.Nodes.{nodesOf}
 use Rattle.instance.specs.NodeRule.{maxNodes, NodeFault, NodesRight, bad-size}
 use Rattle.instance.specs.Width.{WidthFault}
 use Rattle.instance.proofs.Size.{few-nodes}
-use Rattle.rules.specs.Job.{Valid}
-use Rattle.rules.proofs.Uniqueness.{unique}
-use Rattle.pairs.specs.Pairs.{TablesPass}
-use Rattle.matches.specs.MatchList.{MatchList, ListWritten, ListAnswer}
-use Rattle.matches.specs.declared.Answer.{Answer}
-use Rattle.matches.specs.declared.Answer.the-variants as answer
+use Rattle.matching_rules.specs.Job.{Valid}
+use Rattle.matching_rules.proofs.Uniqueness.{unique}
+use Rattle.matching_pairs.specs.Pairs.{TablesPass}
+use Rattle.matching_list.specs.MatchList.{MatchList, ListWritten, ListAnswer}
+use Rattle.matching_list.specs.declared.Answer.{Answer}
+use Rattle.matching_list.specs.declared.Answer.the-variants as answer
 use Rattle.relaxng.specs.Promises.{SchemaRefusal}
 use Rattle.relaxng.specs.Matching.{InstanceRefusal, GivesVerdict, ListTooShort, ListsMatches}
 use Rattle.relaxng.specs.Answers.{matchVerdict, isMatched, pairCount, validationOf, matchAnswer}

@@ -15,8 +15,8 @@ use Rattle.tables.proofs.Chain.{tries-map, tries-go}
 use Rattle.schema.specs.Rows.{sortOf, isClass}
 use Rattle.schema.specs.RowRule.{RowsRight}
 use Rattle.relaxng.specs.Answers.{commonVerdict, foundName, commonName}
-use Rattle.classes.specs.declared.Found.{Found}
-use Rattle.classes.specs.declared.Found.the-variants.{Name, Nothing}
+use Rattle.schema_classes.specs.declared.Found.{Found}
+use Rattle.schema_classes.specs.declared.Found.the-variants.{Name, Nothing}
 use Rattle.relaxng.specs.Promises.{SchemaRefusal, NotClass, NoClass, not-first, not-second}
 
 pub refused-passed : {code place : ℕ} → Refused code place ≡ Passed → ⊥

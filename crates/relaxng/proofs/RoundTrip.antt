@@ -14,16 +14,16 @@ use Rattle.tables.specs.Tables.{Tables}
 use Rattle.tables.specs.declared.Verdict.the-variants.{Passed}
 use Rattle.schema.specs.Rows.{rowsOf}
 use Rattle.instance.specs.Nodes.{nodesOf}
-use Rattle.jobs.specs.Reading.{Reading, read, readJob}
-use Rattle.jobs.specs.Written.{jobText}
-use Rattle.jobs.proofs.Job.{Writable, round-trip}
-use Rattle.lines.specs.Promises.{Room, OutputsHold}
-use Rattle.reader.specs.Promises.{fits, given, Counts, JobAnswer}
-use Rattle.reader.specs.declared.JobRead.{JobRead}
-use Rattle.reader.specs.declared.JobRead.the-variants.{Read, NotRead}
-use Rattle.writer.specs.Promises.{WriteJob, too-many-rows, broken-length, too-long, too-short}
-use Rattle.writer.proofs.Job.{Chain}
-use Rattle.writer.specs.declared.JobWritten.the-variants.{Written}
+use Rattle.job.specs.Reading.{Reading, read, readJob}
+use Rattle.job.specs.Written.{jobText}
+use Rattle.job.proofs.Job.{Writable, round-trip}
+use Rattle.job_lines.specs.Promises.{Room, OutputsHold}
+use Rattle.job_reader.specs.Promises.{fits, given, Counts, JobAnswer}
+use Rattle.job_reader.specs.declared.JobRead.{JobRead}
+use Rattle.job_reader.specs.declared.JobRead.the-variants.{Read, NotRead}
+use Rattle.job_writer.specs.Promises.{WriteJob, too-many-rows, broken-length, too-long, too-short}
+use Rattle.job_writer.proofs.Job.{Chain}
+use Rattle.job_writer.specs.declared.JobWritten.the-variants.{Written}
 use Rattle.relaxng.specs.RoundTrip.{MachineWords, LongEnough, ReadsJob, ReadsBack, RoundTrip}
 
 module _ (J : Tables) where

@@ -10,9 +10,9 @@ use Rattle.tables.specs.Outputs.{laid}
 use Rattle.tables.specs.Refusals.{Tries, refused, goes-on, Passes}
 use Rattle.tables.specs.declared.Verdict.{Verdict}
 use Rattle.tables.specs.declared.Verdict.the-variants.{Passed, Refused}
-use Rattle.jobs.proofs.Decimals.{lt-or-ge}
-use Rattle.rules.specs.Listed.{pairWords}
-use Rattle.rules.proofs.Uniqueness.{unique}
+use Rattle.job.proofs.Decimals.{lt-or-ge}
+use Rattle.matching_rules.specs.Listed.{pairWords}
+use Rattle.matching_rules.proofs.Uniqueness.{unique}
 use Rattle.relaxng.specs.Answers.{matchVerdict, pairCount}
 use Rattle.relaxng.specs.Matching.{InstanceRefusal, Matched, ListsMatches, ListTooShort}
 use Rattle.relaxng.specs.declared.MatchAnswer.{MatchAnswer}

@@ -12,10 +12,10 @@ use Rattle.relaxng.specs.declared.Validation.the-variants.{Valid, NotVal
 use Rattle.relaxng.specs.declared.MatchAnswer.{MatchAnswer}
 use Rattle.relaxng.specs.declared.MatchAnswer.the-variants as matches
 use Rattle.relaxng.specs.declared.MatchAnswer.the-variants.{NotMatched}
-use Rattle.matches.specs.declared.Answer.{Answer}
-use Rattle.matches.specs.declared.Answer.the-variants as answer
-use Rattle.classes.specs.declared.Found.{Found}
-use Rattle.classes.specs.declared.Found.the-variants.{Name, Nothing}
+use Rattle.matching_list.specs.declared.Answer.{Answer}
+use Rattle.matching_list.specs.declared.Answer.the-variants as answer
+use Rattle.schema_classes.specs.declared.Found.{Found}
+use Rattle.schema_classes.specs.declared.Found.the-variants.{Name, Nothing}
 
 -- what an answer says of refusal
 abbrev pub membershipVerdict : Membership → Verdict

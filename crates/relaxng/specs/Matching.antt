@@ -12,8 +12,8 @@ use Rattle.tables.specs.Refusals.{Tries, Passes, codeOf}
 use Rattle.tables.specs.declared.Verdict.{Verdict}
 use Rattle.instance.specs.NodeRule.{NodeFault}
 use Rattle.instance.specs.Width.{WidthFault}
-use Rattle.rules.specs.Job.{Valid}
-use Rattle.matches.specs.MatchList.{MatchList, ListWritten}
+use Rattle.matching_rules.specs.Job.{Valid}
+use Rattle.matching_list.specs.MatchList.{MatchList, ListWritten}
 use Rattle.relaxng.specs.Answers.{validationVerdict, matchVerdict, isValid, isMatched, pairCount}
 use Rattle.relaxng.specs.Promises.{SchemaRefusal}
 use Rattle.relaxng.specs.declared.Validation.{Validation}

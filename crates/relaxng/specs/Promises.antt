@@ -9,9 +9,9 @@ use Rattle.tables.specs.Refusals.{Tries, Passes, codeOf}
 use Rattle.tables.specs.declared.Verdict.{Verdict}
 use Rattle.strings.specs.Strings.{StringFault, schemaStrings}
 use Rattle.schema.specs.Rows.{sortOf, isClass}
-use Rattle.classes.specs.Membership.{inClass}
-use Rattle.classes.specs.Least as least
-use Rattle.restrictions.specs.Schema.{SchemaTries}
+use Rattle.schema_classes.specs.Membership.{inClass}
+use Rattle.schema_classes.specs.Least as least
+use Rattle.schema_restrictions.specs.Schema.{SchemaTries}
 use Rattle.relaxng.specs.Answers.{membershipVerdict, commonVerdict, isYes, foundName}
 use Rattle.relaxng.specs.declared.Membership.{Membership}
 use Rattle.relaxng.specs.declared.CommonName.{CommonName}

@@ -6,14 +6,14 @@ use lib.ListN.{length, take}
 use Rattle.tables.specs.Tables.{Tables}
 use Rattle.schema.specs.Rows.{rowsOf}
 use Rattle.instance.specs.Nodes.{nodesOf}
-use Rattle.jobs.specs.Numbers.{Words, Bytes}
-use Rattle.jobs.specs.Reading.{readJob}
-use Rattle.lines.specs.Promises.{Room, OutputsHold}
-use Rattle.reader.specs.Promises.{given, JobAnswer}
-use Rattle.reader.specs.declared.JobRead.{JobRead}
-use Rattle.reader.specs.declared.JobRead.the-variants.{Read}
-use Rattle.writer.specs.Promises.{WriteJob}
-use Rattle.writer.specs.declared.JobWritten.the-variants.{Written}
+use Rattle.job.specs.Numbers.{Words, Bytes}
+use Rattle.job.specs.Reading.{readJob}
+use Rattle.job_lines.specs.Promises.{Room, OutputsHold}
+use Rattle.job_reader.specs.Promises.{given, JobAnswer}
+use Rattle.job_reader.specs.declared.JobRead.{JobRead}
+use Rattle.job_reader.specs.declared.JobRead.the-variants.{Read}
+use Rattle.job_writer.specs.Promises.{WriteJob}
+use Rattle.job_writer.specs.declared.JobWritten.the-variants.{Written}
 
 -- the tables are of bytes and words, as slices hold them
 pub record MachineWords (J : Tables) : Type 0 where

@@ -1,6 +1,6 @@
 // The public calls.
-use classes::Found;
-use matches::Answer;
+use matching_list::Answer;
+use schema_classes::Found;
 use tables::Checked;
 use tables::Verdict;
 ghost use mathlib.Core.Path.{_≡_};
@@ -47,7 +47,7 @@ pub fn schema_verdict(bytes: &[u8], ends: &[u32], schema: &[u32]) -> Verdict
     let Checked::Fine = strings else {
         return tables::refusal(1, strings);
     };
-    restrictions::check_schema(ends.len(), schema)
+    schema_restrictions::check_schema(ends.len(), schema)
 }
 
 // Whether a name is in the class at a row: codes 1 to 8, then 11.
@@ -68,7 +68,7 @@ pub fn name_in_class(
     if !schema::is_class_row(schema, class) {
         return Membership::NotJudged(11, class);
     }
-    if classes::in_class(schema, class, namespace, local) {
+    if schema_classes::in_class(schema, class, namespace, local) {
         Membership::Yes
     } else {
         Membership::No
@@ -105,7 +105,7 @@ pub fn least_common_name(
     if !schema::is_class_row(schema, second) {
         return CommonName::NotSought(11, second);
     }
-    common_name(classes::least_common(schema, first, second))
+    common_name(schema_classes::least_common(schema, first, second))
 }
 
 // Whether schema and instance keep their rules: codes 1 to 10.
@@ -116,11 +116,11 @@ fn instance_verdict(bytes: &[u8], ends: &[u32], schema: &[u32], instance: &[u32]
     let Verdict::Passed = passed else {
         return passed;
     };
-    let nodes = nodes::check_nodes(ends.len(), instance);
+    let nodes = instance_nodes::check_nodes(ends.len(), instance);
     let Checked::Fine = nodes else {
         return tables::refusal(9, nodes);
     };
-    tables::refusal(10, nodes::check_width(instance))
+    tables::refusal(10, instance_nodes::check_width(instance))
 }
 
 // Whether the instance is valid by the schema: codes 1 to 10.
@@ -131,7 +131,7 @@ pub fn verdict(bytes: &[u8], ends: &[u32], schema: &[u32], instance: &[u32]) -> 
     let Verdict::Passed = passed else {
         return Validation::NotValidated(tables::code_of(passed), tables::place_of(passed));
     };
-    if matches::is_valid(bytes, ends, schema, instance) {
+    if matching_list::is_valid(bytes, ends, schema, instance) {
         Validation::Valid
     } else {
         Validation::NotValid
@@ -164,5 +164,5 @@ pub fn match_list(
         tables::zero_u32(list);
         return MatchAnswer::NotMatched(tables::code_of(passed), tables::place_of(passed));
     };
-    matches_of(matches::match_pairs(bytes, ends, schema, instance, list))
+    matches_of(matching_list::match_pairs(bytes, ends, schema, instance, list))
 }

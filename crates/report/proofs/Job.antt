@@ -13,19 +13,19 @@ use Rattle.tables.specs.Outputs.{zeros, laid}
 use Rattle.tables.proofs.Numbers.{not-less}
 use Rattle.schema.specs.Rows.{rowsOf}
 use Rattle.instance.specs.Nodes.{nodesOf}
-use Rattle.jobs.specs.Reading.{Reading, read, wrong, readJob}
-use Rattle.jobs.specs.Reported.{refusalText}
-use Rattle.jobs.proofs.Limits.{Limited, limited}
-use Rattle.lines.specs.Promises.{Room, roomOf, OutputsHold}
-use Rattle.reader.specs.Promises.{fits, given, JobAnswer}
-use Rattle.reader.proofs.Answer.{readAnswer, one-answer}
-use Rattle.reader.specs.declared.JobRead.{JobRead}
-use Rattle.reader.specs.declared.JobRead.the-variants.{Read, NotRead}
+use Rattle.job.specs.Reading.{Reading, read, wrong, readJob}
+use Rattle.job.specs.Reported.{refusalText}
+use Rattle.job.proofs.Limits.{Limited, limited}
+use Rattle.job_lines.specs.Promises.{Room, roomOf, OutputsHold}
+use Rattle.job_reader.specs.Promises.{fits, given, JobAnswer}
+use Rattle.job_reader.proofs.Answer.{readAnswer, one-answer}
+use Rattle.job_reader.specs.declared.JobRead.{JobRead}
+use Rattle.job_reader.specs.declared.JobRead.the-variants.{Read, NotRead}
 use Rattle.relaxng.specs.Answers.{matchVerdict, pairCount}
 use Rattle.tables.specs.Refusals.{codeOf}
 use Rattle.relaxng.specs.Matching.{ListsMatches, Matched}
 use Rattle.relaxng.specs.declared.MatchAnswer.{MatchAnswer}
-use Rattle.texts.specs.Writing.{TextIn}
+use Rattle.job_texts.specs.Writing.{TextIn}
 use Rattle.report.specs.Report.{listRoom, answerText, Reports, not-read, answered, Reported, Answered}
 
 -- the tables that the program lends

@@ -3,8 +3,8 @@ use Prim.Native.Nat.{ℕ}
 use mathlib.Core.Path.{_≡_, sym, _∙_, ap, ap₂, subst}
 use mathlib.Core.List.{List}
 use Rattle.tables.specs.Tables.{Tables}
-use Rattle.jobs.specs.Reported.{refusalText}
-use Rattle.jobs.proofs.Limits.{not-wrong}
+use Rattle.job.specs.Reported.{refusalText}
+use Rattle.job.proofs.Limits.{not-wrong}
 use Rattle.relaxng.specs.Matching.{ListsMatches}
 use Rattle.relaxng.proofs.Same.{same-answer}
 use Rattle.report.specs.Report.{listRoom, answerText, Reports, not-read, answered}

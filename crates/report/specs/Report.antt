@@ -5,9 +5,9 @@ use mathlib.Core.Bool.{true, false}
 use mathlib.Core.List.{List}
 use lib.ListN.{take}
 use Rattle.tables.specs.Tables.{Tables}
-use Rattle.jobs.specs.Reading.{read, wrong, readJob}
-use Rattle.jobs.specs.Reported.{matchText, refusalText}
-use Rattle.texts.specs.Writing.{TextIn}
+use Rattle.job.specs.Reading.{read, wrong, readJob}
+use Rattle.job.specs.Reported.{matchText, refusalText}
+use Rattle.job_texts.specs.Writing.{TextIn}
 use Rattle.relaxng.specs.Matching.{ListsMatches}
 use Rattle.relaxng.specs.declared.MatchAnswer.{MatchAnswer}
 use Rattle.relaxng.specs.declared.MatchAnswer.the-variants.{Valid, NotValid, NotMatched}

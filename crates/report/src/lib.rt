@@ -1,11 +1,11 @@
 // From the bytes of a job file to the bytes that `check` prints.
-use reader::JobRead;
+use job_reader::JobRead;
 use relaxng::MatchAnswer;
 ghost use Prim.Native.Nat.{_*_, _≤_};
 ghost use lib.ListN.{length, take};
 ghost use Rattle.tables.specs.Tables.{stringTable, tablesOf};
-ghost use Rattle.jobs.specs.Reported.{matchText};
-ghost use Rattle.texts.specs.Writing.{TextIn};
+ghost use Rattle.job.specs.Reported.{matchText};
+ghost use Rattle.job_texts.specs.Writing.{TextIn};
 ghost use Rattle.report.specs.Report.{listRoom, Reported, Answered};
 
 // The text of a list of so many pairs.
@@ -14,7 +14,7 @@ fn write_pairs(valid: bool, list: &[u32], pairs: u32, out: &mut [u8]) -> u32
     ensures { λ n. ⌜ TextIn (matchText valid (take (pairs * 2) (now (list .entry)))) (length (now (out .entry))) (now (out .exit)) n ⌝ }
 {
     let words = pairs as usize * 2;
-    texts::write_matches(valid, &list[..words], out)
+    job_texts::write_matches(valid, &list[..words], out)
 }
 
 // The text of the answer on the tables of a job.
@@ -26,7 +26,7 @@ fn answer(bytes: &[u8], ends: &[u32], schema: &[u32], instance: &[u32], out: &mu
     match matches {
         MatchAnswer::Valid(pairs) => write_pairs(true, &list, pairs, out),
         MatchAnswer::NotValid(pairs) => write_pairs(false, &list, pairs, out),
-        MatchAnswer::NotMatched(code, place) => texts::write_refusal(code, place, out),
+        MatchAnswer::NotMatched(code, place) => job_texts::write_refusal(code, place, out),
     }
 }
 
@@ -39,7 +39,7 @@ pub fn report(file: &[u8], out: &mut [u8]) -> u32
     let mut ends = [0u32; 512];
     let mut schema = [0u32; 1536];
     let mut instance = [0u32; 5120];
-    let job = reader::read_job(file, &mut bytes, &mut ends, &mut schema, &mut instance);
+    let job = job_reader::read_job(file, &mut bytes, &mut ends, &mut schema, &mut instance);
     match job {
         JobRead::Read(b, s, r, n) => {
             let rows = r as usize * 3;
@@ -52,6 +52,6 @@ pub fn report(file: &[u8], out: &mut [u8]) -> u32
                 out,
             )
         }
-        JobRead::NotRead(code, place) => texts::write_refusal(code, place, out),
+        JobRead::NotRead(code, place) => job_texts::write_refusal(code, place, out),
     }
 }

@@ -11,7 +11,7 @@ use Rattle.report.proofs.answer.Reads as reads
 use Rattle.report.proofs.answer.Lts as lts
 use Rattle.relaxng.proofs.match_list.Reads as match-list-reads
 use Rattle.report.proofs.write_pairs.Reads as write-pairs-reads
-use Rattle.texts.proofs.write_refusal.Reads as write-refusal-reads
+use Rattle.job_texts.proofs.write_refusal.Reads as write-refusal-reads
 
 slice-aggregate-match-list : tie.Need-slice-aggregate-match-list
 slice-aggregate-match-list c = search needs

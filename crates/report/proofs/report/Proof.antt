@@ -8,9 +8,9 @@ use Rattle.report.proofs.report.Statement.{statement}
 use Rattle.report.proofs.report.Tie as tie
 use Rattle.report.proofs.report.Reads as reads
 use Rattle.report.proofs.report.Lts as lts
-use Rattle.reader.proofs.read_job.Reads as read-job-reads
+use Rattle.job_reader.proofs.read_job.Reads as read-job-reads
 use Rattle.report.proofs.answer.Reads as answer-reads
-use Rattle.texts.proofs.write_refusal.Reads as write-refusal-reads
+use Rattle.job_texts.proofs.write_refusal.Reads as write-refusal-reads
 
 slice-aggregate-read-job : tie.Need-slice-aggregate-read-job
 slice-aggregate-read-job c = search needs

@@ -7,7 +7,7 @@ use Rattle.report.proofs.write_pairs.Statement.{statement}
 use Rattle.report.proofs.write_pairs.Tie as tie
 use Rattle.report.proofs.write_pairs.Reads as reads
 use Rattle.report.proofs.write_pairs.Lts as lts
-use Rattle.texts.proofs.write_matches.Reads as write-matches-reads
+use Rattle.job_texts.proofs.write_matches.Reads as write-matches-reads
 
 mul-words : tie.Need-mul-words
 mul-words c = search needs

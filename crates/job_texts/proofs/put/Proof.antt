@@ -1,0 +1,28 @@
+-- Past the end of the output nothing is stored.
+use Rattle.job_texts.proofs.Writing.{wrote-past}
+use Rattle.job_texts.proofs.put.Statement.{statement}
+use Rattle.job_texts.proofs.put.Tie as tie
+use borrow.Author.Needs.{needs}
+use native.Mathlib.Omega.{arith}
+
+slice-write-out : tie.Need-slice-write-out
+slice-write-out c = search needs
+
+add-result : tie.Need-add-result
+add-result c = search needs
+
+same-length : tie.Need-same-length
+same-length c = search needs
+
+returns : tie.Need-returns
+returns c = search needs
+
+add-result-2 : tie.Need-add-result-2
+add-result-2 c = search needs
+
+returns-2 : tie.Need-returns-2
+returns-2 c = wrote-past _ _ _ (omega arith)
+
+pub put-spec : {M : Type 1} → statement M
+put-spec =
+    tie.close (tie.spec slice-write-out add-result same-length returns add-result-2 returns-2)

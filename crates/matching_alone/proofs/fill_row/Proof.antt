@@ -1,0 +1,121 @@
+-- One law a kind.
+use Rattle.tables.specs.Tables.{stringTable}
+use Rattle.matching_alone.proofs.RowKinds.{made-text, made-data, made-oneOrMore, made-choice, made-group, made-interleave, made-rest}
+use mathlib.Core.Path.{sym, _∙_}
+use denote.Ref.{now}
+use borrow.Author.Needs.{needs}
+use Rattle.matching_alone.proofs.fill_row.Statement.{statement}
+use Rattle.matching_alone.proofs.fill_row.Tie as tie
+
+kind-requires : tie.Need-kind-requires
+kind-requires c κs = search needs
+
+field-a-requires : tie.Need-field-a-requires
+field-a-requires c κs = search needs
+
+field-b-requires : tie.Need-field-b-requires
+field-b-requires c κs = search needs
+
+fill-same-requires : tie.Need-fill-same-requires
+fill-same-requires c κs = search needs
+
+fill-data-requires : tie.Need-fill-data-requires
+fill-data-requires c κs = search needs
+
+fill-value-requires : tie.Need-fill-value-requires
+fill-value-requires c κs = search needs
+
+fill-either-requires : tie.Need-fill-either-requires
+fill-either-requires c κs = search needs
+
+fill-either-requires-2 : tie.Need-fill-either-requires-2
+fill-either-requires-2 c κs = search needs
+
+fill-one-requires : tie.Need-fill-one-requires
+fill-one-requires c κs = search needs
+
+fill-one-requires-2 : tie.Need-fill-one-requires-2
+fill-one-requires-2 c κs = search needs
+
+fill-same-requires-2 : tie.Need-fill-same-requires-2
+fill-same-requires-2 c κs = search needs
+
+same-length : tie.Need-same-length
+same-length c = search needs
+
+returns : tie.Need-returns
+returns c = made-text (stringTable (now (c .before .before .before .before .before .before .before .before .before .before .before .before .before .before .args .bytes)) (now (c .before .before .before .before .before .before .before .before .before .before .before .before .before .before .args .ends))) (now (c .before .before .before .before .before .before .before .before .before .before .before .before .before .before .args .schema)) (now (c .before .before .before .before .before .before .before .before .before .before .before .before .before .before .args .alone)) (now (c .before .before .before .before .before .before .before .before .before .before .before .before .before .before .args .nothing)) (c .before .before .before .before .before .before .before .before .before .before .before .before .before .before .args .p) (sym (c .before .before .before .before .before .before .before .kind .ensures) ∙ c .before .before .before .before .match .keys1) (c .before .before .fill-same .ensures)
+
+same-length-2 : tie.Need-same-length-2
+same-length-2 c = search needs
+
+returns-2 : tie.Need-returns-2
+returns-2 c = made-data (stringTable (now (c .before .before .before .before .before .before .before .before .before .before .before .before .before .before .args .bytes)) (now (c .before .before .before .before .before .before .before .before .before .before .before .before .before .before .args .ends))) (now (c .before .before .before .before .before .before .before .before .before .before .before .before .before .before .args .schema)) (now (c .before .before .before .before .before .before .before .before .before .before .before .before .before .before .args .alone)) (now (c .before .before .before .before .before .before .before .before .before .before .before .before .before .before .args .nothing)) (c .before .before .before .before .before .before .before .before .before .before .before .before .before .before .args .p) (c .before .before .before .before .before .before .field-a .ensures) (c .before .before .before .before .before .field-b .ensures) (sym (c .before .before .before .before .before .before .before .kind .ensures) ∙ c .before .before .before .before .match .keys2) (c .before .before .fill-data .ensures)
+
+same-length-3 : tie.Need-same-length-3
+same-length-3 c = search needs
+
+returns-3 : tie.Need-returns-3
+returns-3 c = c .before .before .fill-value .ensures (now (c .before .before .before .before .before .before .before .before .before .before .before .before .before .before .before .args .nothing)) (sym (c .before .before .before .before .before .before .before .before .kind .ensures) ∙ c .before .before .before .before .before .match .keys3)
+
+same-length-4 : tie.Need-same-length-4
+same-length-4 c = search needs
+
+returns-4 : tie.Need-returns-4
+returns-4 c = made-oneOrMore (stringTable (now (c .before .before .before .before .before .before .before .before .before .before .before .before .before .before .args .bytes)) (now (c .before .before .before .before .before .before .before .before .before .before .before .before .before .before .args .ends))) (now (c .before .before .before .before .before .before .before .before .before .before .before .before .before .before .args .schema)) (now (c .before .before .before .before .before .before .before .before .before .before .before .before .before .before .args .alone)) (now (c .before .before .before .before .before .before .before .before .before .before .before .before .before .before .args .nothing)) (c .before .before .before .before .before .before .before .before .before .before .before .before .before .before .args .p) (c .before .before .before .before .before .before .field-a .ensures) (c .before .before .before .before .before .field-b .ensures) (sym (c .before .before .before .before .before .before .before .kind .ensures) ∙ c .before .before .before .before .match .keys4) (c .before .before .fill-either .ensures)
+
+same-length-5 : tie.Need-same-length-5
+same-length-5 c = search needs
+
+returns-5 : tie.Need-returns-5
+returns-5 c = made-choice (stringTable (now (c .before .before .before .before .before .before .before .before .before .before .before .before .before .before .args .bytes)) (now (c .before .before .before .before .before .before .before .before .before .before .before .before .before .before .args .ends))) (now (c .before .before .before .before .before .before .before .before .before .before .before .before .before .before .args .schema)) (now (c .before .before .before .before .before .before .before .before .before .before .before .before .before .before .args .alone)) (now (c .before .before .before .before .before .before .before .before .before .before .before .before .before .before .args .nothing)) (c .before .before .before .before .before .before .before .before .before .before .before .before .before .before .args .p) (c .before .before .before .before .before .before .field-a .ensures) (c .before .before .before .before .before .field-b .ensures) (sym (c .before .before .before .before .before .before .before .kind .ensures) ∙ c .before .before .before .before .match .keys5) (c .before .before .fill-either2 .ensures)
+
+same-length-6 : tie.Need-same-length-6
+same-length-6 c = search needs
+
+returns-6 : tie.Need-returns-6
+returns-6 c = made-group (stringTable (now (c .before .before .before .before .before .before .before .before .before .before .before .before .before .before .args .bytes)) (now (c .before .before .before .before .before .before .before .before .before .before .before .before .before .before .args .ends))) (now (c .before .before .before .before .before .before .before .before .before .before .before .before .before .before .args .schema)) (now (c .before .before .before .before .before .before .before .before .before .before .before .before .before .before .args .alone)) (now (c .before .before .before .before .before .before .before .before .before .before .before .before .before .before .args .nothing)) (c .before .before .before .before .before .before .before .before .before .before .before .before .before .before .args .p) (c .before .before .before .before .before .before .field-a .ensures) (c .before .before .before .before .before .field-b .ensures) (sym (c .before .before .before .before .before .before .before .kind .ensures) ∙ c .before .before .before .before .match .keys6) (c .before .before .fill-one .ensures)
+
+same-length-7 : tie.Need-same-length-7
+same-length-7 c = search needs
+
+returns-7 : tie.Need-returns-7
+returns-7 c = made-interleave (stringTable (now (c .before .before .before .before .before .before .before .before .before .before .before .before .before .before .args .bytes)) (now (c .before .before .before .before .before .before .before .before .before .before .before .before .before .before .args .ends))) (now (c .before .before .before .before .before .before .before .before .before .before .before .before .before .before .args .schema)) (now (c .before .before .before .before .before .before .before .before .before .before .before .before .before .before .args .alone)) (now (c .before .before .before .before .before .before .before .before .before .before .before .before .before .before .args .nothing)) (c .before .before .before .before .before .before .before .before .before .before .before .before .before .before .args .p) (c .before .before .before .before .before .before .field-a .ensures) (c .before .before .before .before .before .field-b .ensures) (sym (c .before .before .before .before .before .before .before .kind .ensures) ∙ c .before .before .before .before .match .keys7) (c .before .before .fill-one2 .ensures)
+
+same-length-8 : tie.Need-same-length-8
+same-length-8 c = search needs
+
+returns-8 : tie.Need-returns-8
+returns-8 c = made-rest (stringTable (now (c .before .before .before .before .before .before .before .before .before .before .before .before .before .before .args .bytes)) (now (c .before .before .before .before .before .before .before .before .before .before .before .before .before .before .args .ends))) (now (c .before .before .before .before .before .before .before .before .before .before .before .before .before .before .args .schema)) (now (c .before .before .before .before .before .before .before .before .before .before .before .before .before .before .args .alone)) (now (c .before .before .before .before .before .before .before .before .before .before .before .before .before .before .args .nothing)) (c .before .before .before .before .before .before .before .before .before .before .before .before .before .before .args .p) (record { no-text = (λ e. c .before .before .before .before .match .rest .0 .0 .0 .0 .0 .0 .1 (c .before .before .before .before .before .before .before .kind .ensures ∙ e)); no-repeat = (λ e. c .before .before .before .before .match .rest .0 .0 .0 .1 (c .before .before .before .before .before .before .before .kind .ensures ∙ e)); no-choice = (λ e. c .before .before .before .before .match .rest .0 .0 .1 (c .before .before .before .before .before .before .before .kind .ensures ∙ e)); no-group = (λ e. c .before .before .before .before .match .rest .0 .1 (c .before .before .before .before .before .before .before .kind .ensures ∙ e)); no-interleave = (λ e. c .before .before .before .before .match .rest .1 (c .before .before .before .before .before .before .before .kind .ensures ∙ e)) }) (λ e. c .before .before .before .before .match .rest .0 .0 .0 .0 .0 .1 (c .before .before .before .before .before .before .before .kind .ensures ∙ e)) (λ e. c .before .before .before .before .match .rest .0 .0 .0 .0 .1 (c .before .before .before .before .before .before .before .kind .ensures ∙ e)) (c .before .before .fill-same2 .ensures)
+
+pub fill-row-spec : {M : Type 1} → statement M
+fill-row-spec =
+    tie.close
+    (tie.spec
+    kind-requires
+    field-a-requires
+    field-b-requires
+    fill-same-requires
+    fill-data-requires
+    fill-value-requires
+    fill-either-requires
+    fill-either-requires-2
+    fill-one-requires
+    fill-one-requires-2
+    fill-same-requires-2
+    same-length
+    returns
+    same-length-2
+    returns-2
+    same-length-3
+    returns-3
+    same-length-4
+    returns-4
+    same-length-5
+    returns-5
+    same-length-6
+    returns-6
+    same-length-7
+    returns-7
+    same-length-8
+    returns-8)

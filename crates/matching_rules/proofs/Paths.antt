@@ -1,0 +1,106 @@
+-- In a schema that passes: what stands in an except is plain (10.2.5), and below start stand choice, ref and notAllowed alone (10.2.6).
+use mathlib.Core.Path.{_≡_, refl, sym, subst}
+use mathlib.Core.Logic.{_≢_}
+use mathlib.Core.Bool.{Bool, true, false, true≢false}
+use mathlib.Core.List.{List}
+use Prim.Native.Nat.{ℕ, zero, suc, _-_, _<_}
+use native.Mathlib.Omega.{arith}
+use Rattle.tables.specs.Tables.{Tables}
+use Rattle.schema.specs.Kinds as kind
+use Rattle.schema.specs.Rows.{rowsOf, kindOf, aOf, shapeOf, sortOf, isPattern}
+use Rattle.schema.specs.RowRule.{no-row}
+use Rattle.schema.specs.Relations.{Child, by-a, Below, child}
+use Rattle.schema.specs.Views.{Pattern, patternOf, dataExcept}
+use Rattle.schema.proofs.Children.{child-less}
+use Rattle.schema.proofs.Fields.{pattern-a, pattern-kind, PatternKind}
+use Rattle.schema.proofs.RowLaws.{right-size}
+use Rattle.schema.proofs.Sorts.{last-kind}
+use Rattle.schema_places.specs.Paths.{notInExcept, notInStart, in-start}
+use Rattle.schema_places.proofs.Sweep.{further}
+use Rattle.schema_restrictions.specs.Schema.{SchemaPasses}
+use Rattle.schema_restrictions.proofs.Passes.{except-plain}
+use Rattle.matching_rules.specs.Items.{Lookups}
+use Rattle.matching_rules.specs.Job.{lookups, startRow}
+use Rattle.matching_rules.specs.Reach.{Subpattern, operand, choice-first, choice-second, of-except}
+use Rattle.matching_rules.specs.Restricted.{Plain, plain-notAllowed, plain-value, plain-data, plain-except, plain-choice, Starts, starts-notAllowed, starts-ref, starts-choice}
+use Rattle.matching_rules.proofs.RowPatterns.{has-kind, Makes, makes-empty, makes-notAllowed, makes-text, makes-data, makes-except, makes-value, makes-attribute, makes-ref, makes-oneOrMore, makes-choice, makes-group, makes-interleave, makes-none, row-makes, from-except, part-child, part-pattern}
+
+module _ (L : Lookups) where
+  -- a pattern whose kind may stand in an except is plain if its parts are
+  plain-made : {k a b : ℕ} {x : Pattern} → Makes k a b x → PatternKind k → notInExcept k ≡ false → ((q : ℕ) → Subpattern q x → Plain L (L .pattern q)) → Plain L x
+  plain-made (makes-empty e) i f below = absurd (true≢false (rw e at f))
+  plain-made (makes-notAllowed e) i f below = plain-notAllowed
+  plain-made (makes-text e) i f below = absurd (true≢false (rw e at f))
+  plain-made (makes-data e g) i f below = plain-data
+  plain-made (makes-except e g) i f below = plain-except (below _ of-except)
+  plain-made (makes-value e) i f below = plain-value
+  plain-made (makes-attribute e) i f below = absurd (true≢false (rw e at f))
+  plain-made (makes-ref e) i f below = absurd (true≢false (rw e at f))
+  plain-made (makes-oneOrMore e) i f below = absurd (true≢false (rw e at f))
+  plain-made (makes-choice e) i f below = plain-choice (below _ (operand choice-first)) (below _ (operand choice-second))
+  plain-made (makes-group e) i f below = absurd (true≢false (rw e at f))
+  plain-made (makes-interleave e) i f below = absurd (true≢false (rw e at f))
+  plain-made (makes-none n) i f below = absurd (n i)
+
+  -- the same below start
+  starts-made : {k a b : ℕ} {x : Pattern} → Makes k a b x → PatternKind k → notInStart k ≡ false → ((q : ℕ) → Subpattern q x → Starts L (L .pattern q)) → Starts L x
+  starts-made (makes-empty e) i f below = absurd (true≢false (rw e at f))
+  starts-made (makes-notAllowed e) i f below = starts-notAllowed
+  starts-made (makes-text e) i f below = absurd (true≢false (rw e at f))
+  starts-made (makes-data e g) i f below = absurd (true≢false (rw e at f))
+  starts-made (makes-except e g) i f below = absurd (true≢false (rw e at f))
+  starts-made (makes-value e) i f below = absurd (true≢false (rw e at f))
+  starts-made (makes-attribute e) i f below = absurd (true≢false (rw e at f))
+  starts-made (makes-ref e) i f below = starts-ref
+  starts-made (makes-oneOrMore e) i f below = absurd (true≢false (rw e at f))
+  starts-made (makes-choice e) i f below = starts-choice (below _ (operand choice-first)) (below _ (operand choice-second))
+  starts-made (makes-group e) i f below = absurd (true≢false (rw e at f))
+  starts-made (makes-interleave e) i f below = absurd (true≢false (rw e at f))
+  starts-made (makes-none n) i f below = absurd (n i)
+
+module _ {strings : ℕ} {s : List ℕ} (pass : SchemaPasses strings s) where
+  -- P holds of every pattern below row p, where it holds of a row by the patterns below the row
+  below-all : (P : ℕ → Type 0) (p : ℕ) → ((r : ℕ) → Below s r p → isPattern (sortOf s r) ≡ true → ((q : ℕ) → Subpattern q (patternOf s r) → P q) → P r) → (n r : ℕ) → r < n → Below s r p → isPattern (sortOf s r) ≡ true → P r
+  below-all P p step zero r h b i = absurd (omega arith)
+  below-all P p step (suc n) r h b i =
+      step r b i (λ q d. let c = part-child (pass .rows) r d in let l = child-less c in below-all P p step n q (omega arith) (further b c) (part-pattern (pass .rows) r d))
+
+  some-row : rowsOf s ≢ 0
+  some-row e = right-size (pass .rows) 0 (no-row e refl)
+
+  -- the last row is start, and its pattern a child
+  pub start-kind : kindOf s (rowsOf s - 1) ≡ kind.start
+  start-kind =
+      let n = some-row in
+      last-kind strings s (pass .rows) (rowsOf s - 1) (omega arith) (omega arith)
+
+  start-pattern : Child s (aOf s (rowsOf s - 1)) (rowsOf s - 1) × (isPattern (sortOf s (aOf s (rowsOf s - 1))) ≡ true)
+  unfolding shapeOf
+  start-pattern =
+      let i = pattern-a strings s (pass .rows) (rowsOf s - 1) (has-kind (pass .rows) start-kind (λ z. omega arith)) kind.start start-kind refl in
+      (by-a (i .0) refl, i .1)
+
+  pub start-child : Child s (aOf s (rowsOf s - 1)) (rowsOf s - 1)
+  start-child = start-pattern .0
+
+  in-start-right : (r : ℕ) → Below s r (rowsOf s - 1) → notInStart (kindOf s r) ≡ false
+  in-start-right r b = go (notInStart (kindOf s r)) refl
+    where
+      go : (x : Bool) → notInStart (kindOf s r) ≡ x → x ≡ false
+      go true f = absurd (pass .paths r (in-start (rowsOf s - 1) f start-kind b))
+      go false f = refl
+
+module _ {strings : ℕ} (J : Tables) (pass : SchemaPasses strings (J .schema)) where
+  pub excepts-plain : (p d q : ℕ) → patternOf (J .schema) p ≡ dataExcept d q → Plain (lookups J) (patternOf (J .schema) q)
+  excepts-plain p d q e =
+      let m = from-except (row-makes (J .schema) p e) in
+      let part : Subpattern q (patternOf (J .schema) p) = subst (Subpattern q) (sym e) of-except in
+      below-all pass (λ (r : ℕ). Plain (lookups J) (patternOf (J .schema) r)) p
+      (λ r b i below. plain-made (lookups J) (row-makes (J .schema) r refl) (pattern-kind (kindOf (J .schema) r) i) (except-plain pass r p (m .0) b) below)
+      (suc q) q (omega arith) (child (part-child (pass .rows) p part)) (part-pattern (pass .rows) p part)
+
+  pub start-starts : Starts (lookups J) (patternOf (J .schema) (aOf (J .schema) (startRow J)))
+  start-starts =
+      below-all pass (λ (r : ℕ). Starts (lookups J) (patternOf (J .schema) r)) (rowsOf (J .schema) - 1)
+      (λ r b i below. starts-made (lookups J) (row-makes (J .schema) r refl) (pattern-kind (kindOf (J .schema) r) i) (in-start-right pass r b) below)
+      (suc (aOf (J .schema) (rowsOf (J .schema) - 1))) (aOf (J .schema) (rowsOf (J .schema) - 1)) (omega arith) (child (start-child pass)) (start-pattern pass .1)

@@ -1,0 +1,49 @@
+-- What matching needs of a schema, stated over the lookups. Every schema that passes has it (proofs/Passing).
+use Prim.Native.Nat.{ℕ, _≤_, _<_}
+use mathlib.Core.Path.{_≡_}
+use mathlib.Core.Bool.{Bool, true}
+use mathlib.Core.List.{List}
+use Rattle.schema.specs.Views.{Pattern, notAllowed, dataAll, dataExcept, value, ref, oneOrMore, choice, group, interleave, noPattern}
+use Rattle.matching_rules.specs.Items.{Item, Lookups}
+use Rattle.matching_rules.specs.Reach.{Subpattern, Reaches, Within, isSharing, isSimple, takesAny, namesAttribute, takes}
+
+module _ (L : Lookups) where
+  -- what may stand in an except (10.2.5)
+  pub data Plain : Pattern → Type 0 where
+    plain-notAllowed : Plain notAllowed
+    plain-value : {t k : ℕ} → Plain (value t k)
+    plain-data : {t : ℕ} → Plain (dataAll t)
+    plain-except : {t p : ℕ} → Plain (L .pattern p) → Plain (dataExcept t p)
+    plain-choice : {p₁ p₂ : ℕ} → Plain (L .pattern p₁) → Plain (L .pattern p₂) → Plain (choice p₁ p₂)
+
+  -- what may stand below start (10.2.6)
+  pub data Starts : Pattern → Type 0 where
+    starts-notAllowed : Starts notAllowed
+    starts-ref : {d : ℕ} → Starts (ref d)
+    starts-choice : {p₁ p₂ : ℕ} → Starts (L .pattern p₁) → Starts (L .pattern p₂) → Starts (choice p₁ p₂)
+
+  -- no attribute stands in a group or interleave that x reaches (10.2.3)
+  abbrev pub Flat : Pattern → Type 0
+  Flat x = (y : Pattern) → Within L x y → isSharing y ≡ true → (u : ℕ) → ¬ Reaches L (namesAttribute L u) y
+
+  -- of two patterns the items go to one side where the other takes strings as data or value do (10.3)
+  abbrev pub Sequenced : ℕ → ℕ → Type 0
+  Sequenced p₁ p₂ = Reaches L isSimple (L .pattern p₁) → ¬ Reaches L takesAny (L .pattern p₂)
+
+  -- a group or interleave: no attribute name on both sides (10.4), and what 10.3 asks of the two
+  pub record SidesRestricted (p₁ p₂ : ℕ) : Type 0 where
+    pub attributes : (x : ℕ) → Reaches L (namesAttribute L x) (L .pattern p₁) → ¬ Reaches L (namesAttribute L x) (L .pattern p₂)
+    pub first : Sequenced p₁ p₂
+    pub second : Sequenced p₂ p₁
+
+  pub record Restricted : Type 0 where
+    pub bounded : (p : ℕ) → L .rows ≤ p → L .pattern p ≡ noPattern
+    pub falls : (p q : ℕ) → Subpattern q (L .pattern p) → q < p
+    pub same-name : (x : ℕ) → L .SameName x x
+    pub groups : (p p₁ p₂ : ℕ) → L .pattern p ≡ group p₁ p₂ → SidesRestricted p₁ p₂
+    pub interleaves : (p p₁ p₂ : ℕ) → L .pattern p ≡ interleave p₁ p₂ → SidesRestricted p₁ p₂
+    -- 10.5: no item can go to either side of an interleave
+    pub items : (p p₁ p₂ : ℕ) → L .pattern p ≡ interleave p₁ p₂ → (y : Item) → Reaches L (takes L y) (L .pattern p₁) → ¬ Reaches L (takes L y) (L .pattern p₂)
+    pub repeats-flat : (p q : ℕ) → L .pattern p ≡ oneOrMore q → Flat (L .pattern q)
+    pub repeats-sequenced : (p q : ℕ) → L .pattern p ≡ oneOrMore q → ¬ Reaches L isSimple (L .pattern q)
+    pub excepts : (p t q : ℕ) → L .pattern p ≡ dataExcept t q → Plain (L .pattern q)

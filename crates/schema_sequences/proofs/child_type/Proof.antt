@@ -1,0 +1,20 @@
+-- The table knows the rows before p; what is no row has no type.
+use mathlib.Core.Logic.{⊎-elim}
+use native.Mathlib.Omega.{arith}
+use borrow.Author.Needs.{needs}
+use Rattle.schema_sequences.proofs.TypeTables.{no-row-type}
+use Rattle.schema.proofs.RowLaws.{few-rows}
+use Rattle.schema_sequences.proofs.child_type.Statement.{statement}
+use Rattle.schema_sequences.proofs.child_type.Tie as tie
+
+word-requires : tie.Need-word-requires
+word-requires c κs = search needs
+
+returns : tie.Need-returns
+returns c = rw (c .word .ensures) (c .before .before .before .before .pre .1 .known (c .before .before .before .before .args .child) (c .before .if1 .taken))
+
+returns-2 : tie.Need-returns-2
+returns-2 c = no-row-type (c .before .before .before .args .schema .now) (c .before .before .before .args .child) (c .before .before .before .pre .0) (⊎-elim (λ l. absurd (omega arith)) (λ e. omega (arith, few-rows (c .before .before .before .pre .0))) (c .before .before .before .pre .2))
+
+pub child-type-spec : {M : Type 1} → statement M
+child-type-spec = tie.close (tie.spec word-requires returns returns-2)
