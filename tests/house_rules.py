@@ -5,7 +5,8 @@ A test file that tests/parts.txt does not list, a dependency in crates.txt that 
 a promise in docs/PROMISES.md or with one that holds under a premise, a call of a user with a `requires`, a function
 without an `ensures`, a long function or proof file, a kind of a schema row as a bare number, a definition or a contract
 that rests on a proof, a wrong answer that no promise names or that a promise names in vain, a crate without a line in
-the map or in the times, a hole or an axiom in a proof, a name of the library with another meaning.
+the map or in the times, a hole or an axiom in a proof, a name of the library with another meaning, a name that two
+definitions have.
 """
 import glob
 import os
@@ -121,6 +122,7 @@ for place in sorted(CALLS):
 CONSTRUCTORS = {"true", "false", "none", "some"}
 # What is defined, with constructors and fields; what is bound before a `:`, after λ or `let`, and by a clause.
 DEFINED = re.compile(r"^ *(?:unfoldable )?(?:abbrev )?(?:pub )?(?:(?:record|data) (\S+)|(\S+) :(?= |$))", re.M)
+TOP = re.compile(r"^ *(?:(?:unfoldable|abbrev) pub|pub (?:record|data)) ([A-Z]\w*)", re.M)
 TYPED = re.compile(r"[({]([^(){}:=]+) : ")
 BOUND = re.compile(r"λ ([^.]*)\.|\blet (\S+) ")
 NAME = re.compile(r"[^\s(){},]+")
@@ -136,6 +138,8 @@ def renamed(text):
     return sorted(names & LIBRARY)
 
 
+# What a capital letter begins is a relation or a type, and stands for one thing in all definitions.
+homes = {}
 for path in sorted(glob.glob("crates/**/*.antt", recursive=True)):
     text = re.sub(r"--.*", "", read(path))
     hold(text.count("\n") <= 400, f"{path} has at most 400 lines")
@@ -144,6 +148,8 @@ for path in sorted(glob.glob("crates/**/*.antt", recursive=True)):
     if "/specs/" in path:
         hold(".proofs." not in text, f"{path} cites no proof")
         hold(not renamed(text), f"{path} gives no name of the library another meaning: {renamed(text)}")
+        for name in TOP.findall(text):
+            hold(homes.setdefault(name, path) == path, f"{name} stands for one thing: {homes[name]}, {path}")
 
 edits = "".join(read(path) for path in glob.glob("crates/*/must-fail/*.edit"))
 labels = re.findall(r"^label: (.*)$", edits, re.M)

@@ -8,7 +8,7 @@ use lib.Dec.{eqb, ltb}
 use lib.ListN.{length}
 use borrow.Author.Tests.{eqb-true, eqb-false, eq-eqb, lt-ltb, ltb-true}
 use Rattle.instance.specs.Nodes.{element, attribute, text, noParent, nodesOf, kindOf, parentOf, aOf, bOf, cOf, isChild, isAttribute}
-use Rattle.instance.specs.NodeRule.{maxNodes, fieldsRight, nearest, SelfOrAncestor, itself, above, ParentRight, SizeFault, no-node, too-many-nodes, broken-length, WrongNode, bad-fields, bad-parent, late-attribute, same-attribute, text-after-text, bad-size, bad-node, NodesRight}
+use Rattle.instance.specs.NodeRule.{maxNodes, fieldsRight, nearest, SelfOrAncestor, itself, above, ParentRight, NodeSizeFault, no-node, too-many-nodes, broken-length, WrongNode, bad-fields, bad-parent, late-attribute, same-attribute, text-after-text, bad-size, bad-node, NodesRight}
 use Rattle.instance.specs.Width.{maxWidth, howMany, WidthFault, many-attributes, many-children}
 use Rattle.tables.proofs.Booleans.{and-left, and-right, both-and}
 use Rattle.cases.proofs.Tests.{everyBelow, every-below, below-every, no-of}
@@ -86,7 +86,7 @@ module _ (strings : ℕ) (t : List ℕ) where
     unfolding nodesTest
     node = every-below nodeTest (nodesOf t) (and-right sizeTest (everyBelow nodeTest (nodesOf t)) pass)
 
-    size-right : (r : ℕ) → ¬ SizeFault t r
+    size-right : (r : ℕ) → ¬ NodeSizeFault t r
     size-right r (no-node e z) = let l = ltb-true 0 (nodesOf t) (and-left (ltb 0 (nodesOf t)) countTest size) in omega arith
     size-right r (too-many-nodes h z) =
         no-of (and-left (not (ltb maxNodes (nodesOf t))) (eqb (length t % 5) 0) (and-right (ltb 0 (nodesOf t)) countTest size)) (lt-ltb maxNodes (nodesOf t) h)

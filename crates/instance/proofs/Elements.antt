@@ -12,7 +12,7 @@ use lib.ListN.{length, List·getD-eq-default}
 use borrow.Author.Tests.{eq-eqb, eqb-true, eqb-false, ltb-true}
 use Rattle.tables.proofs.Numbers.{not-less}
 use Rattle.instance.specs.Nodes.{element, attribute, text, noParent, nodesOf, kindOf, parentOf, aOf, bOf, cOf, isChild, isAttribute, SameName}
-use Rattle.instance.specs.NodeRule.{maxNodes, fieldsRight, nearest, SelfOrAncestor, itself, above, ParentRight, SizeFault, broken-length, bad-size, bad-node, bad-fields, bad-parent, late-attribute, same-attribute, NodesRight}
+use Rattle.instance.specs.NodeRule.{maxNodes, fieldsRight, nearest, SelfOrAncestor, itself, above, ParentRight, NodeSizeFault, broken-length, bad-size, bad-node, bad-fields, bad-parent, late-attribute, same-attribute, NodesRight}
 use Rattle.instance.specs.Walk.{Rooted}
 use Rattle.instance.proofs.Size.{few-nodes}
 use Rattle.instance.proofs.Ancestors.{sure, up-none, rooted-none, rooted-more}
@@ -52,7 +52,7 @@ sure-true true f = refl
 sure-true false f = absurd (f (λ e. false≢true e))
 
 module _ {strings : ℕ} {t : List ℕ} (right : NodesRight strings t) where
-  right-size : (r : ℕ) → ¬ SizeFault t r
+  right-size : (r : ℕ) → ¬ NodeSizeFault t r
   right-size r f = right r (bad-size f)
 
   -- a row that has a kind is in the table

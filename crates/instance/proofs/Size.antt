@@ -8,19 +8,19 @@ use lib.ListN.{length}
 use Rattle.tables.specs.Answers.{Clear}
 use Rattle.tables.proofs.Numbers.{not-less}
 use Rattle.instance.specs.Nodes.{nodesOf}
-use Rattle.instance.specs.NodeRule.{maxNodes, SizeFault, no-node, too-many-nodes, broken-length, NodeFault, NodesRight, bad-size, bad-node}
+use Rattle.instance.specs.NodeRule.{maxNodes, NodeSizeFault, no-node, too-many-nodes, broken-length, NodeFault, NodesRight, bad-size, bad-node}
 use Rattle.instance.specs.Walk.{BadNode}
 
-pub size-right : {t : List ℕ} → nodesOf t ≢ 0 → nodesOf t ≤ maxNodes → length t % 5 ≡ 0 → (r : ℕ) → ¬ SizeFault t r
+pub size-right : {t : List ℕ} → nodesOf t ≢ 0 → nodesOf t ≤ maxNodes → length t % 5 ≡ 0 → (r : ℕ) → ¬ NodeSizeFault t r
 size-right some few whole r (no-node e z) = some e
 size-right some few whole r (too-many-nodes h z) = omega arith
 size-right some few whole r (broken-length w z) = w whole
 
 -- a wrong size is placed at row 0 and comes first
-pub first-bad-size : {strings : ℕ} {t : List ℕ} {place : ℕ} → SizeFault t place → Clear (SizeFault t) place → NodeFault strings t place × Clear (NodeFault strings t) place
+pub first-bad-size : {strings : ℕ} {t : List ℕ} {place : ℕ} → NodeSizeFault t place → Clear (NodeSizeFault t) place → NodeFault strings t place × Clear (NodeFault strings t) place
 first-bad-size {strings} {t} {place} f clear = (bad-size f, λ k h. absurd (before k h))
   where
-    zero-place : {k : ℕ} → SizeFault t k → k ≡ 0
+    zero-place : {k : ℕ} → NodeSizeFault t k → k ≡ 0
     zero-place (no-node e z) = z
     zero-place (too-many-nodes e z) = z
     zero-place (broken-length e z) = z
@@ -28,7 +28,7 @@ first-bad-size {strings} {t} {place} f clear = (bad-size f, λ k h. absurd (befo
     before : (k : ℕ) → k < place → ⊥
     before k h = omega (arith, zero-place f)
 
-module _ {t : List ℕ} (right : (r : ℕ) → ¬ SizeFault t r) where
+module _ {t : List ℕ} (right : (r : ℕ) → ¬ NodeSizeFault t r) where
   pub few-nodes : nodesOf t ≤ maxNodes
   few-nodes = not-less (λ h. right 0 (too-many-nodes h refl))
 

@@ -33,10 +33,10 @@ ParentRight t zero = (kindOf t 0 ≡ element) × (parentOf t 0 ≡ noParent)
 ParentRight t (suc r) = (parentOf t (suc r) ≢ noParent) × SelfOrAncestor t (parentOf t (suc r)) (nearest t r)
 
 -- the number of words and rows
-pub data SizeFault (t : List ℕ) (r : ℕ) : Type 0 where
-  no-node : nodesOf t ≡ 0 → r ≡ 0 → SizeFault t r
-  too-many-nodes : maxNodes < nodesOf t → r ≡ 0 → SizeFault t r
-  broken-length : length t % 5 ≢ 0 → r ≡ 0 → SizeFault t r
+pub data NodeSizeFault (t : List ℕ) (r : ℕ) : Type 0 where
+  no-node : nodesOf t ≡ 0 → r ≡ 0 → NodeSizeFault t r
+  too-many-nodes : maxNodes < nodesOf t → r ≡ 0 → NodeSizeFault t r
+  broken-length : length t % 5 ≢ 0 → r ≡ 0 → NodeSizeFault t r
 
 -- what is wrong at row r of the table; of two rows at odds the later is at fault
 pub data WrongNode (strings : ℕ) (t : List ℕ) (r : ℕ) : Type 0 where
@@ -48,7 +48,7 @@ pub data WrongNode (strings : ℕ) (t : List ℕ) (r : ℕ) : Type 0 where
 
 -- code 9 at row r
 pub data NodeFault (strings : ℕ) (t : List ℕ) (r : ℕ) : Type 0 where
-  bad-size : SizeFault t r → NodeFault strings t r
+  bad-size : NodeSizeFault t r → NodeFault strings t r
   bad-node : r < nodesOf t → WrongNode strings t r → NodeFault strings t r
 
 -- the instance rows keep their rule

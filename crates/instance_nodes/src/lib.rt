@@ -13,7 +13,7 @@ ghost use lib.Dec.{eqb, ltb};
 ghost use Rattle.tables.specs.Answers.{Decides, Finds};
 ghost use Rattle.tables.specs.Outputs.{zeros};
 ghost use Rattle.instance.specs.Nodes.{element, nodesOf, isChild, isAttribute};
-ghost use Rattle.instance.specs.NodeRule.{maxNodes, fieldsRight, nearest, ParentRight, SizeFault, WrongNode, NodeFault};
+ghost use Rattle.instance.specs.NodeRule.{maxNodes, fieldsRight, nearest, ParentRight, NodeSizeFault, WrongNode, NodeFault};
 ghost use Rattle.instance.specs.Walk.{Rooted, LastChildren, Twin, RepeatsName, BadNode, Placed, TellsWrong};
 ghost use Rattle.instance.specs.Width.{maxWidth, WidthFault};
 ghost use Rattle.instance_nodes.specs.Counts.{RowsCounted};
@@ -40,7 +40,7 @@ fn fields_right(strings: usize, kind: u32, a: u32, b: u32, c: u32) -> bool
 
 // The number of words and rows.
 fn check_size(instance: &[u32]) -> Checked
-    ensures { λ r. ⌜ Finds (SizeFault (now (instance .entry))) r ⌝ }
+    ensures { λ r. ⌜ Finds (NodeSizeFault (now (instance .entry))) r ⌝ }
 {
     let nodes = instance.len() / 5;
     if nodes == 0 {

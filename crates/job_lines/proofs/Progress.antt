@@ -13,7 +13,7 @@ use Rattle.tables.specs.Place.{between}
 use Rattle.job.specs.Lines.{linesOf}
 use Rattle.job.specs.Reading.{wrong, lineBy, lines, andThen, addString, rowOf}
 use Rattle.job_lines.specs.Parts.{stringAfter, LineTo, StoredTo}
-use Rattle.job_lines.specs.Steps.{Next, Add, stringTables, readStrings, StringsTo, Adds, readRows, RowsTo, RowsStop}
+use Rattle.job_lines.specs.Steps.{Next, Add, stringTables, readStrings, StringsTo, AddsWords, readRows, RowsTo, RowsStop}
 use Rattle.tables.proofs.Stores.{sets-append}
 use Rattle.job_lines.proofs.Passing.{withText, string-keeps, string-adds}
 use Rattle.job.proofs.Limits.{row-length}
@@ -143,7 +143,7 @@ module _ {strings n : ℕ} {ls : List (List ℕ)} {file bytes ends bytes′ ends
 -- of the rows k are read, and the next line starts at a position
 pub record RowsRead (key : List ℕ) (width rows n : ℕ) (ls : List (List ℕ)) (file out out′ : List ℕ) (at k used : ℕ) : Type 0 where
   pub words : List ℕ
-  pub passes : {add : Add} {grow : Tables → List ℕ → Tables} → Adds key width add grow → (t : Tables) (next : Next) → readRows rows n ls add t next ≡ lines add (rows - k) (grow t words) (n + k) (linesOf (drop at file)) next
+  pub passes : {add : Add} {grow : Tables → List ℕ → Tables} → AddsWords key width add grow → (t : Tables) (next : Next) → readRows rows n ls add t next ≡ lines add (rows - k) (grow t words) (n + k) (linesOf (drop at file)) next
   pub holds : out′ ≡ sets out 0 words
   pub size : used ≡ length words
   pub small : used ≤ 5 * k

@@ -13,7 +13,7 @@ use Rattle.instance.specs.NodeRule.{maxNodes}
 use Rattle.job.specs.Ascii.{ascii}
 use Rattle.job.specs.Lines.{linesOf}
 use Rattle.job.specs.Reading.{maxFile, readJob, readLines, read, wrong, lines, literal, count, addRow, addNode}
-use Rattle.job_lines.specs.Steps.{TakesLine, Stops, Next, Add, stringTables, readStrings, StringsTo, Adds, readRows, readTable, RowsTo, RowsStop, RowSection, readEnd, readFront, maxFront, readBack, withRows, BackTo, LinesTo}
+use Rattle.job_lines.specs.Steps.{TakesLine, Stops, Next, Add, stringTables, readStrings, StringsTo, AddsWords, readRows, readTable, RowsTo, RowsStop, RowSection, readEnd, readFront, maxFront, readBack, withRows, BackTo, LinesTo}
 use Rattle.job_lines.specs.declared.Section.{Section}
 use Rattle.job_lines.specs.declared.Section.the-variants.{Read, Wrong}
 
@@ -39,14 +39,14 @@ withSchema t row = tablesOf (t .strings) (t .schema ++ row) (t .instance)
 abbrev withInstance : Tables → List ℕ → Tables
 withInstance t row = tablesOf (t .strings) (t .schema) (t .instance ++ row)
 
-adds-row : Adds (ascii "row=") 3 addRow withSchema
+adds-row : AddsWords (ascii "row=") 3 addRow withSchema
 adds-row = record {
   each = λ t l. refl;
   grow-none = λ t. ap (λ (s : List ℕ). tablesOf (t .strings) s (t .instance)) (append-nil (t .schema));
   grow-more = λ t a b. ap (λ (s : List ℕ). tablesOf (t .strings) s (t .instance)) (append-assoc (t .schema) a b);
 }
 
-adds-node : Adds (ascii "node=") 5 addNode withInstance
+adds-node : AddsWords (ascii "node=") 5 addNode withInstance
 adds-node = record {
   each = λ t l. refl;
   grow-none = λ t. ap (λ (s : List ℕ). tablesOf (t .strings) (t .schema) s) (append-nil (t .instance));

@@ -92,7 +92,7 @@ StringSection reads file bytes ends bytes′ ends′ strings top (section.Read a
 StringSection reads file bytes ends bytes′ ends′ strings top (section.Wrong n) = (next : Next) → reads next ≡ wrong n
 
 -- a line of a table adds its words to it, and grow is what words add to the tables
-pub record Adds (key : List ℕ) (width : ℕ) (add : Add) (grow : Tables → List ℕ → Tables) : Type 0 where
+pub record AddsWords (key : List ℕ) (width : ℕ) (add : Add) (grow : Tables → List ℕ → Tables) : Type 0 where
   pub each : (t : Tables) (l : List ℕ) → add t l ≡ andThen (rowOf key width l) (λ row. some (grow t row))
   pub grow-none : (t : Tables) → grow t [] ≡ t
   pub grow-more : (t : Tables) (a b : List ℕ) → grow (grow t a) b ≡ grow t (a ++ b)
@@ -107,7 +107,7 @@ readTable key limit n ls add t next = line (count key limit) n ls (λ rows n res
 -- rows are read, and their words stand in the output as far as they fit
 pub record RowsTo (key : List ℕ) (width : ℕ) (reads : Add → Tables → Next → Reading) (file out out′ : List ℕ) (top at n used : ℕ) : Type 0 where
   pub words : List ℕ
-  pub passes : {add : Add} {grow : Tables → List ℕ → Tables} → Adds key width add grow → (t : Tables) (next : Next) → reads add t next ≡ next (grow t words) n (linesOf (drop at file))
+  pub passes : {add : Add} {grow : Tables → List ℕ → Tables} → AddsWords key width add grow → (t : Tables) (next : Next) → reads add t next ≡ next (grow t words) n (linesOf (drop at file))
   pub holds : out′ ≡ sets out 0 words
   pub size : used ≡ length words
   pub small : used ≤ maxWords
@@ -115,7 +115,7 @@ pub record RowsTo (key : List ℕ) (width : ℕ) (reads : Add → Tables → Nex
 
 -- a row is wrong, or missing, at line n
 pub record RowsStop (key : List ℕ) (width : ℕ) (reads : Add → Tables → Next → Reading) (n : ℕ) : Type 0 where
-  pub stops : {add : Add} {grow : Tables → List ℕ → Tables} → Adds key width add grow → (t : Tables) (next : Next) → reads add t next ≡ wrong n
+  pub stops : {add : Add} {grow : Tables → List ℕ → Tables} → AddsWords key width add grow → (t : Tables) (next : Next) → reads add t next ≡ wrong n
 
 abbrev pub RowSection : List ℕ → ℕ → (Add → Tables → Next → Reading) → List ℕ → List ℕ → List ℕ → ℕ → Section → Type 0
 RowSection key width reads file out out′ top (section.Read at n used) = RowsTo key width reads file out out′ top at n used

@@ -25,7 +25,7 @@ use Rattle.matching_rules.proofs.Passing.{restricted}
 use Rattle.matching_rules.specs.Reach.{oneString, roleOf, Operand, Subpattern, operand, repeated, choice-first, choice-second, group-first, group-second, interleave-first, interleave-second}
 use Rattle.matching_rules.proofs.RowPatterns.{Makes, row-makes, makes-empty, makes-notAllowed, makes-text, makes-data, makes-except, makes-value, makes-attribute, makes-ref, makes-oneOrMore, makes-choice, makes-group, makes-interleave, makes-none}
 use Rattle.matching.specs.Setting.{Setting, tablesIn, Asked, Covered, Relatable, HoldsRelated}
-use Rattle.matching.specs.Parts.{Where, OneIn, Repetition, HoldsLeaf, Shared, Operands}
+use Rattle.matching.specs.Parts.{Where, OneIn, Repetition, HoldsLeaf, SharedOut, Operands}
 use Rattle.matching.proofs.Shares.{asked-part, operand-covered}
 use Rattle.matching.proofs.Conditions.{front-put, next-put}
 use Rattle.matching.proofs.Leaves.{related-empty, related-text, related-string, related-ref, related-attribute, related-nothing}
@@ -166,7 +166,7 @@ module _ (s : List ℕ) (p : ℕ) where
   module _ {marks named taken single work : List ℕ} {m a k : ℕ} (r : Relatable s marks named taken single m a k p work) where
     shared : {x : Pattern} {a₁ k₁ a₂ k₂ : ℕ} → patternOf s p ≡ x → Operand (aOf s p) x → Operand (bOf s p) x
         → ((y : ℕ) → bit a₁ y ≡ true → bit a y ≡ true) → ((y : ℕ) → bit k₁ y ≡ true → bit k y ≡ true) → ((y : ℕ) → bit a₂ y ≡ true → bit a y ≡ true) → ((y : ℕ) → bit k₂ y ≡ true → bit k y ≡ true)
-        → Shared s marks named taken single m p a₁ k₁ a₂ k₂ work
+        → SharedOut s marks named taken single m p a₁ k₁ a₂ k₂ work
     shared e first second f g h i = record {
       setting = r .setting;
       first-less = falls (r .setting) e first;
@@ -179,15 +179,15 @@ module _ (s : List ℕ) (p : ℕ) where
       room = r .room;
     }
 
-    pub choice-shared : kindOf s p ≡ kind.choice → Shared s marks named taken single m p a k a k work
+    pub choice-shared : kindOf s p ≡ kind.choice → SharedOut s marks named taken single m p a k a k work
     unfolding patternBy
     choice-shared e = shared (by-kind e) choice-first choice-second (λ y h. h) (λ y h. h) (λ y h. h) (λ y h. h)
 
-    pub group-shared : (n : ℕ) → kindOf s p ≡ kind.group → Shared s marks named taken single m p (bitAnd a n) k (bitAnd a (2 ^ 64 - 1 - n)) k work
+    pub group-shared : (n : ℕ) → kindOf s p ≡ kind.group → SharedOut s marks named taken single m p (bitAnd a n) k (bitAnd a (2 ^ 64 - 1 - n)) k work
     unfolding patternBy
     group-shared n e = shared (by-kind e) group-first group-second (λ y h. and-has a n y h .0) (λ y h. h) (λ y h. and-has a (2 ^ 64 - 1 - n) y h .0) (λ y h. h)
 
-    pub interleave-shared : (n t : ℕ) → kindOf s p ≡ kind.interleave → Shared s marks named taken single m p (bitAnd a n) (bitAnd k t) (bitAnd a (2 ^ 64 - 1 - n)) (bitAnd k (2 ^ 64 - 1 - t)) work
+    pub interleave-shared : (n t : ℕ) → kindOf s p ≡ kind.interleave → SharedOut s marks named taken single m p (bitAnd a n) (bitAnd k t) (bitAnd a (2 ^ 64 - 1 - n)) (bitAnd k (2 ^ 64 - 1 - t)) work
     unfolding patternBy
     interleave-shared n t e = shared (by-kind e) interleave-first interleave-second (λ y h. and-has a n y h .0) (λ y h. and-has k t y h .0) (λ y h. and-has a (2 ^ 64 - 1 - n) y h .0) (λ y h. and-has k (2 ^ 64 - 1 - t) y h .0)
 
@@ -216,7 +216,7 @@ module _ (s : List ℕ) (p : ℕ) where
 
   -- ---- the operands themselves: the second is related in the part of the words from 64 on, and p₁ and p₂ are what was read
 
-  module _ {marks named taken single work : List ℕ} {m a₁ k₁ a₂ k₂ : ℕ} (r : Shared s marks named taken single m p a₁ k₁ a₂ k₂ work) where
+  module _ {marks named taken single work : List ℕ} {m a₁ k₁ a₂ k₂ : ℕ} (r : SharedOut s marks named taken single m p a₁ k₁ a₂ k₂ work) where
     pub first-relatable : {p₁ : ℕ} → p₁ ≡ aOf s p → Relatable s marks named taken single m a₁ k₁ p₁ work
     first-relatable e =
         let l = r .first-less in

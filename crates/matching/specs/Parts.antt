@@ -32,7 +32,7 @@ abbrev pub HoldsLeaf : (s marks : List ℕ) (m a k p : ℕ) → List ℕ → Typ
 HoldsLeaf s marks m a k p words = connective (kindOf s p) ≡ false → (named taken single : List ℕ) → HoldsRelated s marks named taken single m a k p words
 
 -- the operands of row p are smaller rows, each with its share of the attributes and items
-pub record Shared (s marks named taken single : List ℕ) (m p a₁ k₁ a₂ k₂ : ℕ) (work : List ℕ) : Type 0 where
+pub record SharedOut (s marks named taken single : List ℕ) (m p a₁ k₁ a₂ k₂ : ℕ) (work : List ℕ) : Type 0 where
   pub setting : Setting s
   pub first-less : aOf s p < p
   pub second-less : bOf s p < p

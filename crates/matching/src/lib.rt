@@ -5,7 +5,7 @@ ghost use Rattle.schema.specs.Kinds as kind;
 ghost use Rattle.schema.specs.Rows.{kindOf};
 ghost use Rattle.sets.specs.Bits.{positions};
 ghost use Rattle.relations.specs.Words.{Is, WordsRelate, WordRoom, Up, front, Gap, Single};
-ghost use Rattle.matching.specs.Parts.{Where, OneIn, Repetition, HoldsLeaf, Shared, Operands};
+ghost use Rattle.matching.specs.Parts.{Where, OneIn, Repetition, HoldsLeaf, SharedOut, Operands};
 ghost use Rattle.matching.specs.Setting.{Relatable, HoldsRelated};
 
 // No attributes, and no item of stop.
@@ -94,7 +94,7 @@ fn operands(
     k2: u64,
     work: &mut [u64],
 )
-    requires { ⌜ Shared (now schema) (now marks) (now named) (now taken) (now single) m p a1 k1 a2 k2 (now work) ⌝ }
+    requires { ⌜ SharedOut (now schema) (now marks) (now named) (now taken) (now single) m p a1 k1 a2 k2 (now work) ⌝ }
     ensures { λ _. ⌜ Operands (now (schema .entry)) (now (marks .entry)) (now (named .entry)) (now (taken .entry)) (now (single .entry)) m p a1 k1 a2 k2 (now (work .exit)) ⌝ }
 {
     let p1 = schema::field_a(schema, p);
