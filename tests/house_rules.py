@@ -6,7 +6,7 @@ a promise in docs/PROMISES.md or with one that holds under a premise, a call of 
 without an `ensures`, a long function or proof file, a kind of a schema row as a bare number, a definition or a contract
 that rests on a proof, a wrong answer that no promise names or that a promise names in vain, a crate without a line in
 the map or in the times, a hole or an axiom in a proof, a name of the library with another meaning, a name that two
-definitions have.
+definitions have, a comment wider than 120 columns.
 """
 import glob
 import os
@@ -84,6 +84,11 @@ KIND_ARM = re.compile(r"^ *\d[\d_]*(?:u32)?(?: *(?:\.\.=?|\|) *[\w:]+)* *=>", re
 KIND_TEST = re.compile(r"\b%s *(?:[=!<>]=|[<>]) *\d|\b\d+(?:u32)? *(?:[=!<>]=|[<>]) *%s\b" % (KIND, KIND))
 
 
+def wide_comments(text, mark):
+    """The comments on lines of their own that are wider than 120 columns."""
+    return [line.strip() for line in text.splitlines() if len(line) > 120 and line.strip().startswith(mark)]
+
+
 def numbered_kinds(code):
     """The places where a kind is a bare number."""
     arms = [a for m in KIND_MATCH.finditer(code) for a in KIND_ARM.findall(m.group(2))]
@@ -112,6 +117,7 @@ for path in sorted(glob.glob("crates/*/src/*.rt")):
             promise = contract[contract.find("ensures") :]
             hold("→" not in promise, f"{place} is public and promises without a premise")
             hold(f"`{place}`" in promises, f"{place} in docs/PROMISES.md")
+    hold(not wide_comments(text, "//"), f"{path} has comments of 120 columns: {wide_comments(text, '//')}")
     code = re.sub(r"//.*", "", text)
     hold(".proofs." not in code, f"{path} cites no proof")
     if crate != "schema":
@@ -141,6 +147,7 @@ def renamed(text):
 # What a capital letter begins is a relation or a type, and stands for one thing in all definitions.
 homes = {}
 for path in sorted(glob.glob("crates/**/*.antt", recursive=True)):
+    hold(not wide_comments(read(path), "--"), f"{path} has comments of 120 columns: {wide_comments(read(path), '--')}")
     text = re.sub(r"--.*", "", read(path))
     hold(text.count("\n") <= 400, f"{path} has at most 400 lines")
     hold(not re.search(r"(?<![\w·-])\?", text), f"{path} has no hole")

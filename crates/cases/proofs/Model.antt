@@ -1,4 +1,5 @@
--- Matching by computation: whether a set of attributes and the items of a set of positions in [i, j) match the pattern at a row.
+-- Matching by computation: whether a set of attributes and the items of a set of positions in [i, j) match the pattern
+-- at a row.
 use Prim.Native.Nat.{ℕ, zero, suc, _-_}
 use mathlib.Core.Bool.{Bool, true, false, not, _&&_, _||_}
 use mathlib.Core.List.{List, [], _∷_}
@@ -68,7 +69,8 @@ module _ (L : Lookups) where
   abbrev pub attributeTest : ℕ → Test → Attributes → ℕ → ℕ → ℕ → Bool
   attributeTest N rec A nc q x = elim (A x) [ true ↦ eachTest N A (eqb x) && (L .inClass nc x && weakStringTest rec q (L .value x)) | false ↦ false ]
 
-  -- the attributes that the pattern at row p names, and the positions whose items it takes; n bounds the rows of operands
+  -- the attributes that the pattern at row p names, and the positions whose items it takes; n bounds the rows of
+  -- operands
   abbrev pub names : ℕ → ℕ → ℕ → Bool
   names n p x = reachTest L (namesAttribute L x) n p
 

@@ -1,4 +1,5 @@
--- The pairs of an element and a definition, and validity, by computation; the model decides them for a schema that passes and an instance that is right.
+-- The pairs of an element and a definition, and validity, by computation; the model decides them for a schema that
+-- passes and an instance that is right.
 use Prim.Native.Nat.{ℕ, zero, suc, _-_, _≤_, _<_}
 use mathlib.Core.Path.{_≡_, refl, sym, _∙_, subst}
 use mathlib.Core.Bool.{Bool, true, false, _&&_, _||_, true≢false, false≢true}

@@ -42,7 +42,8 @@ module _ (strings : ℕ) (s : List ℕ) where
       go e (broken-length f z) =
           f (eqb-true (length s % 3) 0 (and-right (not (ltb maxRows (rowsOf s))) (eqb (length s % 3) 0) (and-right (ltb 0 (rowsOf s)) (not (ltb maxRows (rowsOf s)) && eqb (length s % 3) 0) e)))
 
--- a row of kind k may not stand below one of kind j: the name class constraint, and the prohibited paths but for the one through two rows
+-- a row of kind k may not stand below one of kind j: the name class constraint, and the prohibited paths but for the
+-- one through two rows
 abbrev pub prohibitedName : ℕ → ℕ → Bool
 prohibitedName j k = eqb j kind.anyName && eqb k kind.anyName || eqb j kind.nsName && (eqb k kind.anyName || eqb k kind.nsName)
 

@@ -45,7 +45,8 @@ pub fn same_string(a: &[u8], b: &[u8]) -> bool
     tables::same_bytes(a, b)
 }
 
-// The next character of the normalized form of a text, from a position in it: a run of whitespace is one space, or none at the end.
+// The next character of the normalized form of a text, from a position in it: a run of whitespace is one space, or none
+// at the end.
 fn next(s: &[u8], at: usize) -> Step
     ensures { λ r. ⌜ Reads (now (s .entry)) at r ⌝ }
 {
@@ -73,7 +74,8 @@ fn ends(step: Step) -> bool
     }
 }
 
-// (token equal): whether two texts are equal as values of the datatype `token`. Their normalized forms are compared as they are read.
+// (token equal): whether two texts are equal as values of the datatype `token`. Their normalized forms are compared as
+// they are read.
 pub fn same_token(a: &[u8], b: &[u8]) -> bool
     ensures { λ r. ⌜ Decides (tokenEqual (now (a .entry)) (now (b .entry))) r ⌝ }
 {

@@ -111,7 +111,8 @@ module _ {t : List ℕ} {r : ℕ} (rooted : Rooted t r) where
       let real : e ≢ noParent = omega (arith, rooted .few) in
       (rw z (rooted .before e (omega arith) h), (λ u. above real (rw z at u)), λ u. rw z (up-parent u l))
 
-  -- the walk up from the nearest element of the row before r, which began at start, ends at e: at the parent of r, or past it
+  -- the walk up from the nearest element of the row before r, which began at start, ends at e: at the parent of r, or
+  -- past it
   module _ {p start e : ℕ} (later : 0 < r) (pe : p ≡ parentOf t r) (se : start ≡ nearest t (r - 1)) (h : e < r) where
     pub open-parent : e ≡ p → (SelfOrAncestor t p e → SelfOrAncestor t p start) → ParentRight t r
     open-parent z from = later-right r later (λ n. omega (arith, rooted .few)) (rw (← pe, ← se) (from (rw z itself)))

@@ -1,4 +1,5 @@
--- The rows of a table that keeps the rule of instance rows: parents are elements before their rows, attributes stand right after their element, and their names differ.
+-- The rows of a table that keeps the rule of instance rows: parents are elements before their rows, attributes stand
+-- right after their element, and their names differ.
 use mathlib.Core.Path.{_≡_, refl, sym, _∙_, ap}
 use mathlib.Core.Logic.{_≢_}
 use mathlib.Core.Bool.{Bool, true, false, cond, _&&_, false≢true}

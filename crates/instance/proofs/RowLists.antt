@@ -1,4 +1,5 @@
--- The list of the rows that pass a test: its members, their order, its length; the children of an element, of which no two texts are neighbours.
+-- The list of the rows that pass a test: its members, their order, its length; the children of an element, of which no
+-- two texts are neighbours.
 use mathlib.Core.Path.{_≡_, refl, sym, _∙_, ap}
 use mathlib.Core.Logic.{_⊎_, inl, inr}
 use mathlib.Core.Bool.{Bool, true, false, cond, _||_, true≢false}

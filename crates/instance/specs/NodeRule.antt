@@ -11,7 +11,8 @@ use Rattle.instance.specs.Nodes.{element, attribute, text, noParent, nod
 abbrev pub maxNodes : ℕ
 maxNodes = 1024
 
--- the kind and the fields of a row, beside so many strings: element: namespace, local, 0; attribute: namespace, local, string; text: string that is not the empty one, 0, 0
+-- the kind and the fields of a row, beside so many strings: element: namespace, local, 0; attribute: namespace, local,
+-- string; text: string that is not the empty one, 0, 0
 unfoldable pub fieldsRight : ℕ → ℕ → ℕ → ℕ → ℕ → Bool
 fieldsRight strings k a b c =
     cond (eqb k element) (ltb a strings && (ltb 0 b && ltb b strings) && eqb c 0)

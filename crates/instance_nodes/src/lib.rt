@@ -141,8 +141,10 @@ fn repeats_name(instance: &[u32], p: u32, r: u32) -> bool
     false
 }
 
-// Whether row r, whose fields and parent are right, is an attribute after a child or with the name of an earlier one, or a text after a text.
-// An attribute is compared with others only where its parent has no child yet: the rows between the two are then attributes of that parent.
+// Whether row r, whose fields and parent are right, is an attribute after a child or with the name of an earlier one,
+// or a text after a text.
+// An attribute is compared with others only where its parent has no child yet: the rows between the two are then
+// attributes of that parent.
 fn misplaced(instance: &[u32], last: &[u32], r: u32) -> bool
     requires { ⌜ Placed (now instance) (now last) r ⌝ }
     ensures { λ wrong. ⌜ TellsWrong (now (instance .entry)) r wrong ⌝ }
@@ -164,7 +166,8 @@ fn misplaced(instance: &[u32], last: &[u32], r: u32) -> bool
     false
 }
 
-// Whether row r breaks its rule, where the rows before it keep theirs and last has the kind of each element's last child among them.
+// Whether row r breaks its rule, where the rows before it keep theirs and last has the kind of each element's last
+// child among them.
 fn wrong_node(strings: usize, instance: &[u32], last: &[u32], r: u32) -> bool
     requires { ⌜ (r < maxNodes) × Rooted (now instance) r × LastChildren (now instance) (now last) r ⌝ }
     ensures { λ wrong. ⌜ Decides (WrongNode strings (now (instance .entry)) r) wrong ⌝ }

@@ -1,4 +1,5 @@
--- What a job file reads as: the four tables, or its first wrong line (document 01, "The job file", and code 13 of its table of codes).
+-- What a job file reads as: the four tables, or its first wrong line (document 01, "The job file", and code 13 of its
+-- table of codes).
 use Prim.Native.Nat.{ℕ, zero, suc, _+_}
 use mathlib.Core.Bool.{cond}
 use mathlib.Core.List.{List, [], _∷_, _++_}

@@ -1,4 +1,5 @@
--- What the program `check` prints (document 01, "The job file"): the verdict, the number of pairs and the pairs, or the one line of a refusal.
+-- What the program `check` prints (document 01, "The job file"): the verdict, the number of pairs and the pairs, or the
+-- one line of a refusal.
 use Prim.Native.Nat.{ℕ, _/_}
 use mathlib.Core.Bool.{Bool, true, false}
 use mathlib.Core.List.{List, [], _∷_, _++_}

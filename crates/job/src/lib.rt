@@ -1,4 +1,5 @@
-// The job file of document 01: what is written and what is read, as definitions in specs/, and the round trip in proofs/. There is no function here.
+// The job file of document 01: what is written and what is read, as definitions in specs/, and the round trip in
+// proofs/. There is no function here.
 
 // The longest file.
 pub const MAX_FILE: usize = 65536;

@@ -1,4 +1,5 @@
--- What reading the lines of a job file promises: the tables that the definition of reading gives, laid in four outputs as far as they fit, or the first wrong line.
+-- What reading the lines of a job file promises: the tables that the definition of reading gives, laid in four outputs
+-- as far as they fit, or the first wrong line.
 use Prim.Native.Nat.{ℕ}
 use mathlib.Core.Path.{_≡_}
 use mathlib.Core.List.{List}

@@ -1,4 +1,5 @@
--- What the functions on lines answer: each goes on with the lines after it, or is wrong at a line, as the definition of reading does; cited by private functions only.
+-- What the functions on lines answer: each goes on with the lines after it, or is wrong at a line, as the definition of
+-- reading does; cited by private functions only.
 use Prim.Native.Nat.{ℕ, suc, _+_, _≤_, _<_}
 use mathlib.Core.Path.{_≡_}
 use mathlib.Core.List.{List, [], _++_}
@@ -176,7 +177,8 @@ lineOf (section.Read at n used) = n
 lineOf (section.Wrong n) = n
 
 -- ---- all lines
--- the lines are read, each table stands at the front of its output as far as it fits, and b, s, r and i are the lengths of the tables
+-- the lines are read, each table stands at the front of its output as far as it fits, and b, s, r and i are the lengths
+-- of the tables
 pub record LinesTo (file bytes ends schema instance bytes′ ends′ schema′ instance′ : List ℕ) (b s r i : ℕ) : Type 0 where
   pub tables : Tables
   pub reads : readJob file ≡ read tables

@@ -25,7 +25,8 @@ enum Counted {
     NoCount,
 }
 
-// The lines of a table: the position after them, the number of the next line and the number of words, or the first wrong line.
+// The lines of a table: the position after them, the number of the next line and the number of words, or the first
+// wrong line.
 enum Section {
     Read(usize, u32, usize),
     Wrong(u32),
@@ -37,7 +38,8 @@ enum Ending {
     Wrong(u32),
 }
 
-// The first line and the strings: the position after them, the number of the next line, and the numbers of bytes and of strings; or the first wrong line.
+// The first line and the strings: the position after them, the number of the next line, and the numbers of bytes and of
+// strings; or the first wrong line.
 enum Front {
     Read(usize, u32, usize, usize),
     Wrong(u32),
@@ -380,7 +382,8 @@ fn read_back(file: &[u8], at: usize, line: u32, schema: &mut [u32], instance: &m
     }
 }
 
-// The lines of a file, each table stored from the front of its output as far as it fits; where a line is wrong, what was stored before it is found is left.
+// The lines of a file, each table stored from the front of its output as far as it fits; where a line is wrong, what
+// was stored before it is found is left.
 fn read_lines(
     file: &[u8],
     bytes: &mut [u8],

@@ -1,4 +1,5 @@
--- What the reader of job files promises: the counts and the tables that the definition of reading gives, or the refusal.
+-- What the reader of job files promises: the counts and the tables that the definition of reading gives, or the
+-- refusal.
 use Prim.Native.Nat.{ℕ}
 use mathlib.Core.Path.{_≡_}
 use mathlib.Core.Bool.{Bool, cond, _&&_}

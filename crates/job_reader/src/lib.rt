@@ -7,7 +7,8 @@ ghost use Rattle.job.specs.Reading.{readJob};
 ghost use Rattle.job_lines.specs.Promises.{roomOf, OutputsHold};
 ghost use Rattle.job_reader.specs.Promises.{given, JobAnswer};
 
-// What a job file reads as: how many bytes, strings, schema rows and instance rows, or the refusal with its code and place.
+// What a job file reads as: how many bytes, strings, schema rows and instance rows, or the refusal with its code and
+// place.
 pub enum JobRead {
     Read(u32, u32, u32, u32),
     NotRead(u32, u32),

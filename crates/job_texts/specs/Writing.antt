@@ -1,4 +1,5 @@
--- What a step of the writer does: it puts a text into an output from a position on, as far as it fits, and answers with the position after it.
+-- What a step of the writer does: it puts a text into an output from a position on, as far as it fits, and answers with
+-- the position after it.
 use Prim.Native.Nat.{ℕ, _+_, _%_, _≤_, _<_}
 use mathlib.Core.Path.{_≡_}
 use mathlib.Core.List.{List}
@@ -34,7 +35,8 @@ pub record Kept (before : List ℕ) (n : ℕ) (after : List ℕ) (r : ℕ) : Typ
   pub fits : n ≤ length before → (after ≡ before) × (r ≡ n)
   pub short : length before < n → (after ≡ zeros (length before)) × (r ≡ 0)
 
--- a text in an output of so many bytes, with zeros after it, and its length; zeros throughout and 0 where the output is too short
+-- a text in an output of so many bytes, with zeros after it, and its length; zeros throughout and 0 where the output is
+-- too short
 pub record TextIn (text : List ℕ) (room : ℕ) (out : List ℕ) (r : ℕ) : Type 0 where
   pub fits : length text ≤ room → (out ≡ laid room text) × (r ≡ length text)
   pub short : room < length text → (out ≡ zeros room) × (r ≡ 0)

@@ -214,7 +214,8 @@ module _ (s : List ℕ) (p : ℕ) where
       pub repeated-up : {w : List ℕ} → HoldsRelated s marks named taken single m 0 k q w → Up (WordsRelate w)
       repeated-up first i j h = first (r .setting) asked-none covered-operand .sound i j h .1 .0
 
-  -- ---- the operands themselves: the second is related in the part of the words from 64 on, and p₁ and p₂ are what was read
+  -- ---- the operands themselves: the second is related in the part of the words from 64 on, and p₁ and p₂ are what was
+  -- read
 
   module _ {marks named taken single work : List ℕ} {m a₁ k₁ a₂ k₂ : ℕ} (r : SharedOut s marks named taken single m p a₁ k₁ a₂ k₂ work) where
     pub first-relatable : {p₁ : ℕ} → p₁ ≡ aOf s p → Relatable s marks named taken single m a₁ k₁ p₁ work

@@ -1,4 +1,5 @@
--- Attributes and items of an element as words: no member, one member, and the part that a word has or has not; and the rows that the tables cover.
+-- Attributes and items of an element as words: no member, one member, and the part that a word has or has not; and the
+-- rows that the tables cover.
 use Prim.Native.Nat.{ℕ, suc, _+_, _-_, _^_, _<_}
 use mathlib.Core.Path.{_≡_, sym, ap, _∙_, fun-ext, subst}
 use mathlib.Core.Bool.{Bool, true, not, _&&_, and-assoc, and-false}

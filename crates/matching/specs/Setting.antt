@@ -33,7 +33,8 @@ module _ {s : List ℕ} (S : Setting s) where
   abbrev pub tablesIn : Tables
   tablesIn = tablesOf (S .strings) s (S .instance)
 
-  -- the attributes a and the items k are of the element; no two of the attributes have one name, and no whitespace stands beside an element
+  -- the attributes a and the items k are of the element; no two of the attributes have one name, and no whitespace
+  -- stands beside an element
   pub record Asked (a k : ℕ) : Type 0 where
     pub of-attributes : (x : ℕ) → bit a x ≡ true → x < S .attributes
     pub of-items : (x : ℕ) → bit k x ≡ true → x < S .items
@@ -44,7 +45,8 @@ module _ {s : List ℕ} (S : Setting s) where
   abbrev pub Related : (m a k p : ℕ) → Relation
   Related m a k p i j = (j < m) × Span (lookups tablesIn) (NotMatchBy (lookups tablesIn) (rowsOf s)) (attributesIn (S .element) a) (S .it) (bit k) p i j
 
-  -- the tables hold, for every row that occurs in the pattern at row p, what that does with the attributes and items of the element
+  -- the tables hold, for every row that occurs in the pattern at row p, what that does with the attributes and items of
+  -- the element
   abbrev pub Covered : (marks named taken single : List ℕ) (p : ℕ) → Type 0
   Covered = PatternMarked tablesIn (S .element) (S .attributes) (S .it) (S .items)
 

@@ -231,7 +231,8 @@ fn interleave(
     relations::meet(m, work);
 }
 
-// The relation of row p in the first m words of work: i and j are related where the attributes a and the items of k in [i, j) match its pattern.
+// The relation of row p in the first m words of work: i and j are related where the attributes a and the items of k in
+// [i, j) match its pattern.
 pub fn relate(
     schema: &[u32],
     marks: &[u64],

@@ -134,7 +134,8 @@ fn fill_same(alone: &mut [u8], p: u32, n: usize, v: u8)
     }
 }
 
-// The first n entries of row p become 1 where row a or row b has 1. Both come before row p; with one row for both its entries are taken over.
+// The first n entries of row p become 1 where row a or row b has 1. Both come before row p; with one row for both its
+// entries are taken over.
 fn fill_either(alone: &mut [u8], p: u32, n: usize, a: u32, b: u32)
     requires { ⌜ (p < 512) × (n ≤ 512) × (262144 ≤ length (now alone)) ⌝ }
     ensures { λ _. ⌜ (a < p → b < p → RowOf (EitherOf (now (alone .entry)) a b) (now (alone .entry)) (now (alone .exit)) p n) ⌝ }
@@ -253,7 +254,8 @@ fn slot(datatype: u32, v: u32) -> usize
     datatype as usize % 2 * 512 + v as usize % 512
 }
 
-// The entries of the value at row p. Texts are compared once for each datatype and string: a later row with the same fields takes over the entries of the row that is noted for them. Whatever is noted, the row's fields are looked at.
+// The entries of the value at row p. Texts are compared once for each datatype and string: a later row with the same
+// fields takes over the entries of the row that is noted for them. Whatever is noted, the row's fields are looked at.
 fn fill_value(
     bytes: &[u8],
     ends: &[u32],

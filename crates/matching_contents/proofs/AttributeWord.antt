@@ -1,4 +1,5 @@
--- The attributes of an element as the positions of a word: they stand right after it, and there are as many as were counted.
+-- The attributes of an element as the positions of a word: they stand right after it, and there are as many as were
+-- counted.
 use Prim.Native.Nat.{ℕ, zero, suc, _+_, _-_, _≤_, _<_}
 use mathlib.Core.Path.{_≡_, refl, sym, _∙_, ap, fun-ext}
 use mathlib.Core.Bool.{Bool, true, false, _&&_, true≢false}

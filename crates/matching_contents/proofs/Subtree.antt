@@ -1,4 +1,5 @@
--- The rows of an element's descendants stand together right after it: past the first row whose parent comes before the element it has no child.
+-- The rows of an element's descendants stand together right after it: past the first row whose parent comes before the
+-- element it has no child.
 use Prim.Native.Nat.{ℕ, zero, suc, _+_, _-_, _≤_, _<_}
 use mathlib.Core.Path.{_≡_, refl}
 use mathlib.Core.Bool.{Bool, true, false}

@@ -1,4 +1,5 @@
--- The word of a leaf: the strings that it matches alone, the elements that it is paired with, the attributes that it takes.
+-- The word of a leaf: the strings that it matches alone, the elements that it is paired with, the attributes that it
+-- takes.
 use mathlib.Core.Path.{_≡_, refl, sym, subst}
 use mathlib.Core.Logic.{_⊎_, inl, inr, _↔_, _≢_, ⊎-elim}
 use mathlib.Core.Bool.{Bool, true, false, cond, not, _&&_, false≢true}

@@ -1,4 +1,5 @@
--- What the words of a row answer, and what is marked by the functions that fill the tables; cited by private functions only.
+-- What the words of a row answer, and what is marked by the functions that fill the tables; cited by private functions
+-- only.
 use Prim.Native.Nat.{ℕ, _≤_, _<_}
 use mathlib.Core.Bool.{cond, _&&_}
 use mathlib.Core.List.{List}

@@ -17,7 +17,8 @@ use Rattle.matching_marks.specs.Marks.{attributeRow}
 abbrev pub hasName : (s t : List ℕ) (c r : ℕ) → Bool
 hasName s t c r = inClass s (aOf t r) (bOf t r) c
 
--- string v as an attribute's value: it matches the pattern at row q, or is whitespace where the empty sequence does (9.3.7, weak match 1 and 2)
+-- string v as an attribute's value: it matches the pattern at row q, or is whitespace where the empty sequence does
+-- (9.3.7, weak match 1 and 2)
 abbrev pub valueFits : (alone nothing blank : List ℕ) (q v : ℕ) → Bool
 valueFits alone nothing blank q v = eqb (entry alone q v) 1 || (eqb (getD blank v 0) 1 && eqb (getD nothing q 0) 1)
 

@@ -305,7 +305,8 @@ fn second_operand(schema: &[u32], p: u32) -> u32
     }
 }
 
-// The words of the rows in the pattern at row q, if that is smaller than p, as every operand of p is in a schema that passes.
+// The words of the rows in the pattern at row q, if that is smaller than p, as every operand of p is in a schema that
+// passes.
 fn mark_smaller(
     schema: &[u32],
     instance: &[u32],
@@ -466,8 +467,9 @@ fn mark_pattern(
     );
 }
 
-// The words of each row in the pattern at row p of a schema, for the element at row e, with so many attributes and with these items, of which those in texts are strings by their numbers and
-// the others elements by their rows. The words of other rows may change, but those that are right stay so.
+// The words of each row in the pattern at row p of a schema, for the element at row e, with so many attributes and with
+// these items, of which those in texts are strings by their numbers and the others elements by their rows. The words of
+// other rows may change, but those that are right stay so.
 pub fn mark(
     schema: &[u32],
     instance: &[u32],

@@ -1,4 +1,5 @@
--- The attributes and items that stand for an element: with an element among its children all but whitespace, and otherwise one string.
+-- The attributes and items that stand for an element: with an element among its children all but whitespace, and
+-- otherwise one string.
 use Prim.Native.Nat.{ℕ, zero, suc, _≤_, _<_}
 use mathlib.Core.Path.{_≡_, refl, sym, _∙_, ap, subst}
 use mathlib.Core.Bool.{Bool, true, false, not, cond, _&&_, true≢false, false≢true}

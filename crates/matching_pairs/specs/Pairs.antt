@@ -1,4 +1,5 @@
--- The table of pairs: the entry of instance row e and schema row d is 1 exactly where e is an element, d is a definition, and e is proved against a ref to d.
+-- The table of pairs: the entry of instance row e and schema row d is 1 exactly where e is an element, d is a
+-- definition, and e is proved against a ref to d.
 use Prim.Native.Nat.{ℕ, _*_, _≤_, _<_}
 use mathlib.Core.Path.{_≡_}
 use mathlib.Core.Bool.{true}

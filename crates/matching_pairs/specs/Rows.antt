@@ -27,7 +27,8 @@ use Rattle.matching.specs.Setting.{Setting, Related}
 use Rattle.matching_pairs.specs.Pairs.{IsPair, TablesPass, PairsFrom}
 
 module _ {s : List ℕ} (S : Setting s) where
-  -- all items of k, of the first n, match the pattern at row p; or, where the content is whitespace, no item does (9.3.7, weak match 2)
+  -- all items of k, of the first n, match the pattern at row p; or, where the content is whitespace, no item does
+  -- (9.3.7, weak match 2)
   abbrev pub Fits : (n a k : ℕ) (weak : Bool) (p : ℕ) → Type 0
   Fits n a k weak p = Related S (n + 1) a k p 0 n ⊎ ((weak ≡ true) × Related S (n + 1) a 0 p 0 n)
 

@@ -207,7 +207,8 @@ fn only_string(items: &[u32], n: u32) -> u32
     tables::word(items, 0)
 }
 
-// What stands for a content: the first `count` items, of which `texts` are strings and k are asked for; weak says that they are whitespace.
+// What stands for a content: the first `count` items, of which `texts` are strings and k are asked for; weak says that
+// they are whitespace.
 struct Content {
     count: u32,
     texts: u64,
@@ -215,7 +216,8 @@ struct Content {
     weak: bool,
 }
 
-// What stands for a content of n items: with an element among them all but whitespace, and otherwise one string, which is put first.
+// What stands for a content of n items: with an element among them all but whitespace, and otherwise one string, which
+// is put first.
 fn content_of(blank: &[u8], items: &mut [u32], n: u32, texts: u64, elements: u64) -> Content
     requires { ⌜ (n ≤ maxWidth) × (maxWidth < length (now items)) ⌝ }
     ensures { λ r. ⌜ StandsFor (now (blank .entry)) (now (items .entry)) (now (items .exit)) n texts elements (r .count) (r .texts) (r .k) (r .weak) ⌝ }

@@ -1,4 +1,5 @@
--- All elements of an instance, from the last row to the first: the children of an element stand at later rows, so what is asked of them holds before it is asked of their parent.
+-- All elements of an instance, from the last row to the first: the children of an element stand at later rows, so what
+-- is asked of them holds before it is asked of their parent.
 use Prim.Native.Nat.{ℕ, zero, suc, _+_, _≤_, _<_}
 use mathlib.Core.Path.{_≡_}
 use mathlib.Core.Bool.{true}

@@ -1,4 +1,5 @@
--- The children of an element in the tables of a job: they are okAsChildren (4.2.2), and the elements among them are later rows.
+-- The children of an element in the tables of a job: they are okAsChildren (4.2.2), and the elements among them are
+-- later rows.
 use mathlib.Core.Path.{_≡_, refl, sym, _∙_}
 use mathlib.Core.Bool.{Bool, true, false, cond}
 use mathlib.Core.List.{List, [], _∷_, map, List·Memᴰ, Memᴰ·of-map}

@@ -1,4 +1,5 @@
--- Spans of group and interleave: each attribute goes to the side that names it (10.4), and each item of an interleave to the side that takes it (10.5).
+-- Spans of group and interleave: each attribute goes to the side that names it (10.4), and each item of an interleave
+-- to the side that takes it (10.5).
 use Prim.Native.Nat.{ℕ, _-_}
 use mathlib.Core.Path.{_≡_, ap, sym, _∙_}
 use mathlib.Core.Bool.{Bool, true, false, _||_}

@@ -1,4 +1,5 @@
--- The weak matches of 9.3.7 by content: with an element among the children whitespace is left out, and the other contents are no item or one string.
+-- The weak matches of 9.3.7 by content: with an element among the children whitespace is left out, and the other
+-- contents are no item or one string.
 use Prim.Native.Nat.{ℕ}
 use mathlib.Core.Path.{_≡_, refl, ap, sym, _∙_}
 use mathlib.Core.Bool.{Bool, true, false, true≢false, false≢true}

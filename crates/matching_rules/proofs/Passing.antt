@@ -97,7 +97,8 @@ module _ {strings : ℕ} (J : Tables) (pass : SchemaPasses strings (J .schema)) 
   complex-at-least x (inl e) = rw e (omega arith)
   complex-at-least x (inr h) = omega arith
 
-  -- strings go to one side of an interleave: data or value on one side leaves the other without items (10.3), and text stands on one side only (10.5)
+  -- strings go to one side of an interleave: data or value on one side leaves the other without items (10.3), and text
+  -- stands on one side only (10.5)
   strings-apart : {p p₁ p₂ : ℕ} → kindOf s p ≡ kind.interleave → Sides s p p₁ p₂ → Reaches L takesString (patternOf s p₁) → ¬ Reaches L takesString (patternOf s p₂)
   strings-apart {p} {p₁} {p₂} e sides h i = go (text-or-simple (x .0) (x .2)) (text-or-simple (y .0) (y .2))
     where

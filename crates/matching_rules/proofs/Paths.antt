@@ -1,4 +1,5 @@
--- In a schema that passes: what stands in an except is plain (10.2.5), and below start stand choice, ref and notAllowed alone (10.2.6).
+-- In a schema that passes: what stands in an except is plain (10.2.5), and below start stand choice, ref and notAllowed
+-- alone (10.2.6).
 use mathlib.Core.Path.{_≡_, refl, sym, subst}
 use mathlib.Core.Logic.{_≢_}
 use mathlib.Core.Bool.{Bool, true, false, true≢false}

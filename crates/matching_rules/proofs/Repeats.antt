@@ -1,4 +1,5 @@
--- Spans of oneOrMore (9.3.5). Without attributes they are a closure. No attribute stands in a group below (10.2.3), so each comes alone, with no items.
+-- Spans of oneOrMore (9.3.5). Without attributes they are a closure. No attribute stands in a group below (10.2.3), so
+-- each comes alone, with no items.
 use Prim.Native.Nat.{ℕ, zero, suc, _-_, _≤_, _<_}
 use mathlib.Core.Path.{_≡_, refl, ap, ap₂, sym, _∙_, subst, fun-ext}
 use mathlib.Core.Bool.{Bool, true, false, not, true≢false, false≢true, or-false}

@@ -1,4 +1,5 @@
--- The pattern of a row beside its kind and fields, in a table that keeps the rule of rows: parts are children, and what a pattern reaches occurs in its row.
+-- The pattern of a row beside its kind and fields, in a table that keeps the rule of rows: parts are children, and what
+-- a pattern reaches occurs in its row.
 use mathlib.Core.Path.{_≡_, refl, sym, _∙_, ap, subst}
 use mathlib.Core.Logic.{_≢_, _⊎_, inl, inr, ⊎-elim}
 use mathlib.Core.Bool.{Bool, true, false, cond}

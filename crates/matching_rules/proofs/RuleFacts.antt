@@ -1,4 +1,5 @@
--- What single rules of 9.3 grant or shut out: text, whitespace beside an element, content that is empty, the order of what interleaves, repetitions that share an attribute name.
+-- What single rules of 9.3 grant or shut out: text, whitespace beside an element, content that is empty, the order of
+-- what interleaves, repetitions that share an attribute name.
 use Prim.Native.Nat.{ℕ}
 use mathlib.Core.Path.{_≡_, sym, _∙_}
 use mathlib.Core.Bool.{true}

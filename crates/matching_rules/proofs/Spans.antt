@@ -1,4 +1,5 @@
--- Spans: the attributes A and the items of a set K of positions in [i, j) match the pattern at row p. By kind, for the patterns that do not share attributes or items out.
+-- Spans: the attributes A and the items of a set K of positions in [i, j) match the pattern at row p. By kind, for the
+-- patterns that do not share attributes or items out.
 use Prim.Native.Nat.{ℕ, _-_, _≤_}
 use mathlib.Core.Path.{_≡_, refl, ap, ap₂, sym, _∙_}
 use mathlib.Core.Bool.{Bool, false}

@@ -1,4 +1,5 @@
--- Whitespace left out: a sequence with an element that matches does so without its strings of whitespace, since by 10.3 no data or value takes a string beside an element.
+-- Whitespace left out: a sequence with an element that matches does so without its strings of whitespace, since by 10.3
+-- no data or value takes a string beside an element.
 use Prim.Native.Nat.{ℕ}
 use mathlib.Core.Path.{_≡_, refl, ap, sym, _∙_}
 use mathlib.Core.Bool.{Bool, true, false, not, true≢false, false≢true}

@@ -54,7 +54,8 @@ module _ {strings : ℕ} (J : Tables) (pass : SchemaPasses strings (J .schema)) 
   valid-to (starts-choice {p₁ = q} k₁ k₂) p f b (choice-1 m) = valid-to k₁ q refl (further b (part-child (pass .rows) p (subst (Subpattern q) (sym f) (operand choice-first)))) m
   valid-to (starts-choice {p₂ = q} k₁ k₂) p f b (choice-2 m) = valid-to k₂ q refl (further b (part-child (pass .rows) p (subst (Subpattern q) (sym f) (operand choice-second)))) m
 
-  -- an element that is proved against the definition that the ref at row r names matches every pattern of start that is, or has below it, that ref
+  -- an element that is proved against the definition that the ref at row r names matches every pattern of start that
+  -- is, or has below it, that ref
   module _ (e r d : ℕ) (k : kindOf s r ≡ kind.ref) (names-d : aOf s r ≡ d) (proved : Proved L e d) where
     valid-from : {x : Pattern} → Starts L x → (p : ℕ) → patternOf s p ≡ x → (r ≡ p) ⊎ Below s r p → Matches L noAttributes (element e ∷ []) x
     unfolding shapeOf

@@ -38,7 +38,8 @@ pub record Lookups : Type 1 where
   pub text : ℕ → List ℕ
   pub whitespace : List ℕ → Bool
   pub Equal : ℕ → List ℕ → List ℕ → Type 0
-  -- instance: whether the class at a schema row has the name of an instance row; whether two instance rows have one name
+  -- instance: whether the class at a schema row has the name of an instance row; whether two instance rows have one
+  -- name
   pub inClass : ℕ → ℕ → Bool
   pub SameName : ℕ → ℕ → Type 0
   -- an element's attributes and children, and an attribute's value

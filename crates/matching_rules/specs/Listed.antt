@@ -1,4 +1,5 @@
--- A list of pairs of numbers in strict order that holds exactly the pairs of a relation, and the words that it is written as.
+-- A list of pairs of numbers in strict order that holds exactly the pairs of a relation, and the words that it is
+-- written as.
 use Prim.Native.Nat.{ℕ, _<_}
 use mathlib.Core.Path.{_≡_}
 use mathlib.Core.Logic.{_⊎_}

@@ -1,4 +1,5 @@
--- How patterns stand to each other, over the lookups: roles, operands, parts, and what a pattern reaches through choice, group, interleave and oneOrMore alone.
+-- How patterns stand to each other, over the lookups: roles, operands, parts, and what a pattern reaches through
+-- choice, group, interleave and oneOrMore alone.
 use Prim.Native.Nat.{ℕ}
 use mathlib.Core.Path.{_≡_}
 use mathlib.Core.Bool.{Bool, true, false, _&&_}

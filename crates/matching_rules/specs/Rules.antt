@@ -1,4 +1,5 @@
--- Clause 9.3 of ISO/IEC 19757-2: one constructor for each inference rule, under the rule's name. A pattern is the content of a schema row; its parts are row numbers.
+-- Clause 9.3 of ISO/IEC 19757-2: one constructor for each inference rule, under the rule's name. A pattern is the
+-- content of a schema row; its parts are row numbers.
 use Prim.Native.Nat.{ℕ, zero, suc}
 use mathlib.Core.Path.{_≡_}
 use mathlib.Core.Bool.{true}
@@ -65,8 +66,10 @@ module _ (L : Lookups) where
         weak-match-2 : {a : Attributes} {ws : List Item} {p : Pattern} → Ws ws → Match a [] p → WeakMatch a ws p
         weak-match-3 : {a : Attributes} {p : Pattern} → Match a (string [] ∷ []) p → WeakMatch a [] p
 
-  -- The negative premise by strata: at stratum 0 nothing is granted, and each stratum denies what the rules derive with the one before.
-  -- Where no data stands in its own except, as in every schema that passes, stratum `rows` is the literal `not` of the rules (proofs/Strata).
+  -- The negative premise by strata: at stratum 0 nothing is granted, and each stratum denies what the rules derive with
+  -- the one before.
+  -- Where no data stands in its own except, as in every schema that passes, stratum `rows` is the literal `not` of the
+  -- rules (proofs/Strata).
   unfoldable pub NotMatchBy : ℕ → List ℕ → ℕ → Type 0
   NotMatchBy zero s p = ⊥
   NotMatchBy (suc n) s p = ¬ Match (NotMatchBy n) noAttributes (string s ∷ []) (L .pattern p)

@@ -1,4 +1,5 @@
--- Matching by positions: the items of an element at the positions of a set, and what of them matches the pattern at a row.
+-- Matching by positions: the items of an element at the positions of a set, and what of them matches the pattern at a
+-- row.
 use Prim.Native.Nat.{ℕ, zero, suc, _-_, _≤_}
 use mathlib.Core.Path.{_≡_}
 use mathlib.Core.Bool.{Bool, true, false}

@@ -1,4 +1,5 @@
--- From the verdict on schema and instance and the answer with the match list to the promises of the calls on an instance.
+-- From the verdict on schema and instance and the answer with the match list to the promises of the calls on an
+-- instance.
 use Prim.Native.Nat.{ℕ, _*_, _≤_}
 use mathlib.Core.Path.{_≡_, refl, sym, _∙_, ap, subst}
 use mathlib.Core.Bool.{Bool, true, false}

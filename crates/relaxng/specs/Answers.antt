@@ -1,4 +1,5 @@
--- What each case of an answer says, by document 01's numbers: of refusal, as a verdict, whose code and place are `codeOf` and `placeOf` of it, 0 and 0 where nothing is refused; yes or no; the name or none; the number of pairs.
+-- What each case of an answer says, by document 01's numbers: of refusal, as a verdict, whose code and place are
+-- `codeOf` and `placeOf` of it, 0 and 0 where nothing is refused; yes or no; the name or none; the number of pairs.
 use Prim.Native.Nat.{ℕ}
 use mathlib.Core.Bool.{Bool, true, false}
 use Rattle.tables.specs.declared.Verdict.{Verdict}

@@ -32,7 +32,8 @@ pub record GivesVerdict (J : Tables) (r : Validation) : Type 0 where
 abbrev pub ListTooShort : (J : Tables) (room place : ℕ) → Type 0
 ListTooShort J room place = (place ≡ 0) × (l : List (ℕ × ℕ)) × MatchList J l × (room < length l * 2)
 
--- the match list in a buffer of so many words, the number of its pairs, and valid exactly when a derivation by (valid) of 9.4 exists
+-- the match list in a buffer of so many words, the number of its pairs, and valid exactly when a derivation by (valid)
+-- of 9.4 exists
 pub record Matched (J : Tables) (room : ℕ) (list : List ℕ) (r : MatchAnswer) : Type 0 where
   pub pairs : List (ℕ × ℕ)
   pub all : MatchList J pairs

@@ -1,4 +1,5 @@
--- A job that is written reads back the same: what write_job lays in its output, read_job gives as the same four tables (document 01, "The job file").
+-- A job that is written reads back the same: what write_job lays in its output, read_job gives as the same four tables
+-- (document 01, "The job file").
 use Prim.Native.Nat.{ℕ, _≤_}
 use mathlib.Core.Path.{_≡_}
 use mathlib.Core.List.{List}

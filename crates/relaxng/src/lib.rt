@@ -32,7 +32,8 @@ pub enum Validation {
     NotValidated(u32, u32),
 }
 
-// Whether an instance is valid by a schema, with the number of pairs of the match list; or the refusal with its code and place.
+// Whether an instance is valid by a schema, with the number of pairs of the match list; or the refusal with its code
+// and place.
 pub enum MatchAnswer {
     Valid(u32),
     NotValid(u32),
@@ -85,7 +86,8 @@ fn common_name(found: Found) -> CommonName
     }
 }
 
-// The least name that the classes at two rows have in common: codes 1 to 8, then 11 with the first row that is no class.
+// The least name that the classes at two rows have in common: codes 1 to 8, then 11 with the first row that is no
+// class.
 pub fn least_common_name(
     bytes: &[u8],
     ends: &[u32],

@@ -75,7 +75,8 @@ pub data PickedChild (s : List ℕ) (p : ℕ) (a b : Bool) (r : ℕ) : Type 0 wh
   picked-a : Picked p (childA s p) a r → PickedChild s p a b r
   picked-b : Picked p (childB s p) b r → PickedChild s p a b r
 
--- a child, a smaller row or none, is marked where it is wanted, in a table that has a word for each smaller row and none for that number
+-- a child, a smaller row or none, is marked where it is wanted, in a table that has a word for each smaller row and
+-- none for that number
 adds-picked : (t : List ℕ) (p child : ℕ) (wanted : Bool) → p ≤ length t → length t ≤ noRow → (child < p) ⊎ (child ≡ noRow) → Adds (Picked p child wanted) t (markIf wanted child t)
 adds-picked t p child false room low row = adds-none t (λ r k. false≢true (k .on))
 adds-picked t p child true room low row =

@@ -1,4 +1,5 @@
--- In a table that keeps the rule of rows: a definition is a row of kind element, start is the last row, and a name class of a row is a child.
+-- In a table that keeps the rule of rows: a definition is a row of kind element, start is the last row, and a name
+-- class of a row is a child.
 use mathlib.Core.Path.{_≡_}
 use mathlib.Core.Bool.{true, _&&_, false≢true, and-false}
 use mathlib.Core.List.{List}

@@ -36,7 +36,8 @@ unfoldable pub usesBefore : List ℕ → ℕ → ℕ → ℕ
 usesBefore s r zero = 0
 usesBefore s r (suc p) = usesBefore s r p + isRow r (childA s p) + isRow r (childB s p)
 
--- whether a row of a sort may have so many parents, and be the last row: a pattern or name class has exactly one parent, start is the last row and no other is
+-- whether a row of a sort may have so many parents, and be the last row: a pattern or name class has exactly one
+-- parent, start is the last row and no other is
 abbrev pub sortRight : Sort → ℕ → Bool → Bool
 sortRight Pattern uses last = eqb uses 1 && not last
 sortRight NameClass uses last = eqb uses 1 && not last
@@ -64,7 +65,8 @@ pub data SizeFault (s : List ℕ) (r : ℕ) : Type 0 where
 abbrev pub SizeRight : List ℕ → Type 0
 SizeRight s = (r : ℕ) → ¬ SizeFault s r
 
--- what the check of a code whose faults are P finds in any table: a fault of its size, and in a table of the right size a fault of the code
+-- what the check of a code whose faults are P finds in any table: a fault of its size, and in a table of the right size
+-- a fault of the code
 pub data SizedFault (s : List ℕ) (P : ℕ → Type 0) (r : ℕ) : Type 0 where
   bad-table : SizeFault s r → SizedFault s P r
   bad-place : SizeRight s → P r → SizedFault s P r

@@ -1,4 +1,5 @@
--- A row as a pattern or a name class, in the terms of ISO/IEC 19757-2, clause 8. Parts are row numbers; a definition is the row of an element.
+-- A row as a pattern or a name class, in the terms of ISO/IEC 19757-2, clause 8. Parts are row numbers; a definition is
+-- the row of an element.
 use Prim.Native.Nat.{ℕ}
 use mathlib.Core.Bool.{cond}
 use mathlib.Core.List.{List}

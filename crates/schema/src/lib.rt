@@ -60,7 +60,8 @@ pub enum Sort {
     Bad,
 }
 
-// What a field of a row holds: a pattern or a name class, at a smaller row; such a row or none; the row of a definition; a datatype; the number of a string, or of a local name.
+// What a field of a row holds: a pattern or a name class, at a smaller row; such a row or none; the row of a
+// definition; a datatype; the number of a string, or of a local name.
 pub enum Field {
     Unused,
     APattern,
@@ -321,8 +322,8 @@ fn add_definition(schema: &[u32], d: u32, n: u32, rows: &mut [u32]) -> u32
     n
 }
 
-// The rows of the definitions at the front of rows, in rising order, and how many there are. The words after them are as
-// they were.
+// The rows of the definitions at the front of rows, in rising order, and how many there are. The words after them are
+// as they were.
 pub fn definitions(schema: &[u32], rows: &mut [u32]) -> u32
     requires { ⌜ (rowsOf (now schema) ≤ maxRows) × (maxRows ≤ length (now rows)) ⌝ }
     ensures { λ n. ⌜ Definitions (now (schema .entry)) (now (rows .exit)) n ⌝ }

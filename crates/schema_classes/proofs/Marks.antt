@@ -28,7 +28,8 @@ closing-start s m e = record { size = e; low = omega arith; kept = λ r h. h; cl
 pub closing-done : {s m₀ m : List ℕ} {q : ℕ} → Closing s m₀ m q → q ≤ 0 → Closure s m₀ m
 closing-done i l = record { kept = i .kept; closed = λ p r. i .closed p r (omega arith) }
 
--- a row marks its children where it is marked itself; these are smaller rows, so that the rows from it on keep their marks
+-- a row marks its children where it is marked itself; these are smaller rows, so that the rows from it on keep their
+-- marks
 pub closing-step : {s m₀ m : List ℕ} {q : ℕ} → Closing s m₀ m q → 0 < q → {on : Bool} → on ≡ eqb (getD m (q - 1) 0) 1 → Closing s m₀ (childrenMarked s (q - 1) on on m) (q - 1)
 closing-step {s} {m₀} {m} {q} i more {on} is = record {
   size = children-length s p on on m ∙ i .size;

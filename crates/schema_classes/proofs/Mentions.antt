@@ -67,7 +67,8 @@ module _ {s m : List ℕ} {part : NamePart} where
     all = λ q v k f. a .all q (omega (arith, marked-row m q k)) v k f;
   }
 
-  -- v stands for itself if it is listed; if not, the least number that is not listed stands for it, and neither is mentioned
+  -- v stands for itself if it is listed; if not, the least number that is not listed stands for it, and neither is
+  -- mentioned
   pub candidates : {xs : List ℕ} {n x : ℕ} → Mentioned s m part xs n → n < length xs → Fresh xs n (leastOf part) x → Candidates s m part (set xs n x) (n + 1)
   candidates {xs} {n} {x} a h f v low = go (listed-dec xs n v)
     where

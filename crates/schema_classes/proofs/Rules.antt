@@ -1,4 +1,5 @@
--- ISO/IEC 19757-2, 9.2: which names are in a class, a theorem for each rule. As equations they also say that no other name is. The parts stand at smaller rows.
+-- ISO/IEC 19757-2, 9.2: which names are in a class, a theorem for each rule. As equations they also say that no other
+-- name is. The parts stand at smaller rows.
 use Prim.Native.Nat.{ℕ, _<_}
 use mathlib.Core.Path.{_≡_, _∙_, ap, ap₂}
 use mathlib.Core.Bool.{Bool, true, not, _&&_, _||_, or-true}

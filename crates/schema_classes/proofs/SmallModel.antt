@@ -1,4 +1,5 @@
--- The small model: two names that no row of a class tells apart are both in the class, or both not. The rows are marked, and each child of a marked row is.
+-- The small model: two names that no row of a class tells apart are both in the class, or both not. The rows are
+-- marked, and each child of a marked row is.
 use Prim.Native.Nat.{ℕ, zero, suc, _≤_, _<_}
 use mathlib.Core.Path.{_≡_, refl, sym, _∙_, ap, ap₂}
 use mathlib.Core.Bool.{Bool, true, false, not, _&&_, _||_, true≢false}

@@ -1,4 +1,5 @@
--- A name that two classes have in common, where the rows keep their rule: one with small numbers is common too, and comes no later.
+-- A name that two classes have in common, where the rows keep their rule: one with small numbers is common too, and
+-- comes no later.
 use Prim.Native.Nat.{ℕ, zero, suc, _≤_, _<_}
 use mathlib.Core.Path.{_≡_, refl, sym, _∙_}
 use mathlib.Core.Bool.{Bool, true, false, cond, _&&_, true≢false}

@@ -1,4 +1,5 @@
--- The least name that two classes have in common, by namespace and then by local number, over all whole numbers as namespaces and all from 1 as locals.
+-- The least name that two classes have in common, by namespace and then by local number, over all whole numbers as
+-- namespaces and all from 1 as locals.
 use Prim.Native.Nat.{ℕ, _≤_, _<_}
 use mathlib.Core.Path.{_≡_}
 use mathlib.Core.Bool.{true}

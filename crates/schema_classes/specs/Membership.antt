@@ -1,4 +1,5 @@
--- Name classes: which names a class holds, by the rules of ISO/IEC 19757-2, 9.2. A name is a namespace number and a local number.
+-- Name classes: which names a class holds, by the rules of ISO/IEC 19757-2, 9.2. A name is a namespace number and a
+-- local number.
 use Prim.Native.Nat.{ℕ}
 use mathlib.Core.Bool.{Bool, true, false, not, _&&_, _||_}
 use mathlib.Core.List.{List}

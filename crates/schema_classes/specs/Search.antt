@@ -1,4 +1,5 @@
--- The search for the least common name: the rows of the two classes are marked, and only numbers that marked rows mention, and the least that they do not, are tried.
+-- The search for the least common name: the rows of the two classes are marked, and only numbers that marked rows
+-- mention, and the least that they do not, are tried.
 use Prim.Native.Nat.{ℕ, _+_, _≤_, _<_}
 use mathlib.Core.Path.{_≡_}
 use mathlib.Core.Bool.{Bool, true, false, cond}

@@ -196,7 +196,8 @@ fn least_of(part: NamePart) -> u32
     }
 }
 
-// Lists the numbers to try: what the marked rows mention, and the least number that they do not. Answers how many these are.
+// Lists the numbers to try: what the marked rows mention, and the least number that they do not. Answers how many these
+// are.
 fn list_candidates(schema: &[u32], marks: &[u32], part: NamePart, list: &mut [u32]) -> usize
     requires { ⌜ (length (now marks) ≡ markedRows) × (length (now list) ≡ markedRows + 1) ⌝ }
     ensures { λ r. ⌜ Candidates (now (schema .entry)) (now (marks .entry)) part (now (list .exit)) r ⌝ }

@@ -1,4 +1,5 @@
--- The table of the classes that were compared and share no name: at the start it is empty, and two classes more keep it right.
+-- The table of the classes that were compared and share no name: at the start it is empty, and two classes more keep it
+-- right.
 use Prim.Native.Nat.{ℕ, _+_, _*_, _/_, _%_, _^_, _<_}
 use mathlib.Core.Path.{_≡_, refl, sym, _∙_, subst}
 use mathlib.Core.Bool.{Bool, true, false}

@@ -1,4 +1,5 @@
--- What is looked for among the patterns that occur in a pattern, and what is remembered of comparisons; cited by private functions only.
+-- What is looked for among the patterns that occur in a pattern, and what is remembered of comparisons; cited by
+-- private functions only.
 use Prim.Native.Nat.{ℕ, _+_, _*_, _/_, _%_, _<_}
 use mathlib.Core.Path.{_≡_}
 use mathlib.Core.Bool.{true}
@@ -33,7 +34,8 @@ SharingAttribute s c x = (kindOf s x ≡ kind.attribute) × Shared s c (childA s
 abbrev pub SharingRef : List ℕ → ℕ → ℕ → Type 0
 SharingRef s c x = (kindOf s x ≡ kind.ref) × Shared s c (classReferred s x)
 
--- row x is what is wanted: text; an attribute or ref that shares a name with a class; one that shares a name with one that occurs in a pattern
+-- row x is what is wanted: text; an attribute or ref that shares a name with a class; one that shares a name with one
+-- that occurs in a pattern
 abbrev pub Suits : List ℕ → Wanted → ℕ → Type 0
 Suits s Text x = kindOf s x ≡ kind.text
 Suits s (AttributeSharing c) x = SharingAttribute s c x

@@ -41,7 +41,8 @@ fn infinite_child(schema: &[u32], parent: u32, child: u32) -> bool
     }
 }
 
-// What is looked for in a pattern: text; an attribute, or a ref to an element, that shares a name with a class; one that shares a name with one in another pattern.
+// What is looked for in a pattern: text; an attribute, or a ref to an element, that shares a name with a class; one
+// that shares a name with one in another pattern.
 enum Wanted {
     Text,
     AttributeSharing(u32),
@@ -62,7 +63,8 @@ fn share_name(schema: &[u32], first: u32, second: u32) -> bool
     }
 }
 
-// Whether two classes have a name in common. Two that share none are remembered, where the table has a place for them, and not compared again; two that share one end the check.
+// Whether two classes have a name in common. Two that share none are remembered, where the table has a place for them,
+// and not compared again; two that share one end the check.
 fn share_name_once(schema: &[u32], first: u32, second: u32, compared: &mut [u64]) -> bool
     requires { ⌜ SizeRight (now schema) × Compared (now schema) (now compared) ⌝ }
     ensures { λ r. ⌜ Decides (Shared (now (schema .entry)) first second) r × Compared (now (schema .entry)) (now (compared .exit)) ⌝ }
@@ -173,7 +175,8 @@ fn occurs_child(
     }
 }
 
-// Whether row r breaks a restriction on attributes, with a table of the rows below a oneOrMore. Two attributes meet at one row only, so their comparison is not remembered.
+// Whether row r breaks a restriction on attributes, with a table of the rows below a oneOrMore. Two attributes meet at
+// one row only, so their comparison is not remembered.
 fn attribute_fault(schema: &[u32], repeated: &[u32], r: u32) -> bool
     requires { ⌜ SizeRight (now schema) × MarksExactly (Under (now schema) (HasKind (now schema) oneOrMore)) (now repeated) × (r < rowsOf (now schema)) ⌝ }
     ensures { λ fault. ⌜ Decides (AttributeFault (now (schema .entry)) r) fault ⌝ }

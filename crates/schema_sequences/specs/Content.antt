@@ -35,9 +35,9 @@ pub data HasType (s : List ℕ) : ℕ → ℕ → Type 0 where
   oneOrMore-type : {r c : ℕ} → kindOf s r ≡ kind.oneOrMore → HasType s (childA s r) c → groupable c c ≡ true → HasType s r c
   choice-type : {r c d : ℕ} → kindOf s r ≡ kind.choice → HasType s (childA s r) c → HasType s (childB s r) d → HasType s r (max c d)
 
--- Code 6 at row r, whose own operands have types that do not go together. The rule (element) of 10.3, taken literally, would
--- also make an element of notAllowed incorrect, since notAllowed has no content type; document 01's restriction 3 lets
--- notAllowed be the whole pattern of an element, so that it is no fault (docs/DECISIONS.md).
+-- Code 6 at row r, whose own operands have types that do not go together. The rule (element) of 10.3, taken literally,
+-- would also make an element of notAllowed incorrect, since notAllowed has no content type; document 01's restriction 3
+-- lets notAllowed be the whole pattern of an element, so that it is no fault (docs/DECISIONS.md).
 pub data SequenceFault (s : List ℕ) (r : ℕ) : Type 0 where
   sharing-not-groupable : (c d : ℕ) → sharingKind (kindOf s r) ≡ true → HasType s (childA s r) c → HasType s (childB s r) d → groupable c d ≡ false → SequenceFault s r
   repeat-not-groupable : (c : ℕ) → kindOf s r ≡ kind.oneOrMore → HasType s (childA s r) c → groupable c c ≡ false → SequenceFault s r

@@ -1,4 +1,5 @@
--- The strings before one by their hash, as they are linked while repeated texts are looked for; cited by private functions only.
+-- The strings before one by their hash, as they are linked while repeated texts are looked for; cited by private
+-- functions only.
 use Prim.Native.Nat.{ℕ, suc, _+_, _*_, _/_, _%_, _≤_, _<_}
 use mathlib.Core.Path.{_≡_}
 use mathlib.Core.Logic.{_≢_}

@@ -8,7 +8,8 @@ use Rattle.tables.specs.Place.{whereIs, partPlace, emptyPlace}
 use Rattle.tables.specs.Tables.{stringTable}
 use Rattle.strings.specs.Strings.{startOf, endOf, StringFault, StringsRight}
 
--- the part of string k where the strings keep their rule and k is in the table, and otherwise an empty part from the start
+-- the part of string k where the strings keep their rule and k is in the table, and otherwise an empty part from the
+-- start
 pub record StringText (bytes : RefT (List ℕ)) (ends : List ℕ) (k : ℕ) (r : RefT (List ℕ)) : Type 0 where
   pub in-table : StringsRight (stringTable (now bytes) ends) → k < length ends → whereIs r ≡ partPlace bytes (startOf ends k) (endOf ends k)
   pub not-in-table : length ends ≤ k → whereIs r ≡ emptyPlace bytes

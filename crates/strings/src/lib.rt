@@ -59,7 +59,8 @@ fn hash(text: &[u8]) -> usize
     (text.len() % 512 + first * 37 + second * 17 + middle * 5) % 512
 }
 
-// Whether a string before k has the text of string k. Only strings with its hash can; they are visited from the last one on, whose number is one less than `last`.
+// Whether a string before k has the text of string k. Only strings with its hash can; they are visited from the last
+// one on, whose number is one less than `last`.
 fn repeats(bytes: &[u8], ends: &[u32], prior: &[u32; 512], last: u32, k: usize) -> bool
     requires { ⌜ (k < length (now ends)) × (k < 512) × LastOf (stringTable (now bytes) (now ends)) (hashAt (stringTable (now bytes) (now ends)) k) k last × Linked (stringTable (now bytes) (now ends)) (now prior) k ⌝ }
     ensures { λ r. ⌜ Decides (RepeatsText (stringTable (now (bytes .entry)) (now (ends .entry))) k) r ⌝ }
@@ -76,7 +77,8 @@ fn repeats(bytes: &[u8], ends: &[u32], prior: &[u32; 512], last: u32, k: usize) 
     false
 }
 
-// The first string that has the text of one before it. For each hash, `last` has one more than the number of the last string with it, and 0 where there is none; `prior` has for each string what `last` had for its hash.
+// The first string that has the text of one before it. For each hash, `last` has one more than the number of the last
+// string with it, and 0 where there is none; `prior` has for each string what `last` had for its hash.
 fn first_repeat(bytes: &[u8], ends: &[u32]) -> Checked
     requires { ⌜ length (now ends) ≤ maxStrings ⌝ }
     ensures { λ r. ⌜ Finds (RepeatsText (stringTable (now (bytes .entry)) (now (ends .entry)))) r ⌝ }
@@ -146,7 +148,8 @@ pub fn check_strings(bytes: &[u8], ends: &[u32]) -> Checked
     first_repeat(bytes, ends)
 }
 
-// The text of string k as a part of the lent bytes; an empty part from their start where the strings break their rule or have no string k.
+// The text of string k as a part of the lent bytes; an empty part from their start where the strings break their rule
+// or have no string k.
 pub fn string_text<'a>(bytes: &'a [u8], ends: &[u32], k: u32) -> &'a [u8]
     ensures { λ r. ⌜ StringText (bytes .entry) (now (ends .entry)) k r ⌝ }
 {

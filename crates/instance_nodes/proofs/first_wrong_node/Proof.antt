@@ -1,4 +1,5 @@
--- The invariant: no row before r is wrong, each of them but row 0 comes after its parent, and last has the kind of each element's last child among them.
+-- The invariant: no row before r is wrong, each of them but row 0 comes after its parent, and last has the kind of each
+-- element's last child among them.
 use mathlib.Core.Path.{_∙_, sym, ap}
 use Prim.Native.Nat.{ℕ, _-_, _≤_}
 use native.Mathlib.Omega.{arith}

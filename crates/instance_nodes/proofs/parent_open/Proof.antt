@@ -1,4 +1,5 @@
--- The invariant: the parent of r is on the way up from where the walk began exactly if it is on the way up from e. Rows come after their parents, so that e falls and the walk ends at the parent or past it.
+-- The invariant: the parent of r is on the way up from where the walk began exactly if it is on the way up from e. Rows
+-- come after their parents, so that e falls and the walk ends at the parent or past it.
 use Prim.Native.Nat.{_<_}
 use native.Mathlib.Omega.{arith}
 use borrow.Author.Needs.{needs}

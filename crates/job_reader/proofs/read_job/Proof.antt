@@ -1,4 +1,5 @@
--- The three ways out: a wrong line, tables that fit, and tables that do not, whose outputs are zeroed again; lengths never change.
+-- The three ways out: a wrong line, tables that fit, and tables that do not, whose outputs are zeroed again; lengths
+-- never change.
 use native.Mathlib.Omega.{arith}
 use Rattle.job_lines.specs.Promises.{roomOf}
 use Rattle.job_lines.proofs.Holding.{in-room}

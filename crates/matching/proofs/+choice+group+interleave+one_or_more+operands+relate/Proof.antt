@@ -1,4 +1,5 @@
--- The measure of a row is above that of its parts, which is above those of smaller rows. What the words of each kind answer are the laws of Answering.
+-- The measure of a row is above that of its parts, which is above those of smaller rows. What the words of each kind
+-- answer are the laws of Answering.
 use Prim.Native.Nat.{ℕ, _+_, _-_, _*_, _<_}
 use mathlib.Core.Path.{sym, _∙_}
 use native.Mathlib.Omega.{arith}

@@ -1,4 +1,5 @@
--- Each way out holds the repetitions: an attribute that does not match alone leaves none; without attributes they are the closure; beside attributes no item will do too.
+-- Each way out holds the repetitions: an attribute that does not match alone leaves none; without attributes they are
+-- the closure; beside attributes no item will do too.
 use Prim.Native.Nat.{_-_}
 use native.Mathlib.Omega.{arith}
 use lib.ListN.{length}

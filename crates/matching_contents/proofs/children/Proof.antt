@@ -1,4 +1,5 @@
--- The invariant: the first n words are the rows of e's children that stand before row r, and the words after them are as they were.
+-- The invariant: the first n words are the rows of e's children that stand before row r, and the words after them are
+-- as they were.
 use Prim.Native.Nat.{_-_, _≤_, _<_}
 use mathlib.Core.Path.{_≡_, refl}
 use native.Mathlib.Omega.{arith}

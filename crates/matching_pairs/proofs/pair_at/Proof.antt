@@ -1,4 +1,5 @@
--- The tests are those of a definition: the name in its class, and the content. The pattern is marked before it is related.
+-- The tests are those of a definition: the name in its class, and the content. The pattern is marked before it is
+-- related.
 use mathlib.Core.Path.{refl, sym, _∙_}
 use native.Mathlib.Omega.{arith}
 use borrow.Author.Tests.{not-true, not-false}

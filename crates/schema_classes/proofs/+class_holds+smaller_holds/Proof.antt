@@ -1,4 +1,5 @@
--- The measure of a class is above that of its fields, and that of a field above those of the classes at smaller rows. What a class of each kind holds are the laws of Holds.
+-- The measure of a class is above that of its fields, and that of a field above those of the classes at smaller rows.
+-- What a class of each kind holds are the laws of Holds.
 use Prim.Native.Nat.{ℕ, _<_, _*_, _+_}
 use mathlib.Core.Path.{sym, _∙_, ap}
 use mathlib.Core.Bool.{not}

@@ -1,4 +1,5 @@
--- The invariant: each number passed is listed. So the numbers passed are no more than the list has, and the search ends.
+-- The invariant: each number passed is listed. So the numbers passed are no more than the list has, and the search
+-- ends.
 use Prim.Native.Nat.{_+_, _-_}
 use native.Mathlib.Omega.{arith}
 use Rattle.tables.proofs.Answers.{said-yes, said-no}

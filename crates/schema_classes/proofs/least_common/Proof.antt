@@ -1,4 +1,5 @@
--- The two rows are marked and with them all rows of both classes, so that each common name has one on the grid that is not after it.
+-- The two rows are marked and with them all rows of both classes, so that each common name has one on the grid that is
+-- not after it.
 use Prim.Native.Nat.{ℕ}
 use lib.ListN.{replicate, length-replicate}
 use Rattle.schema_classes.specs.Search.{markedRows}

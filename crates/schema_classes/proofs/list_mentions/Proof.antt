@@ -1,4 +1,5 @@
--- The invariant: what the marked rows passed mention is listed, and the list is no longer than the rows passed are many.
+-- The invariant: what the marked rows passed mention is listed, and the list is no longer than the rows passed are
+-- many.
 use Prim.Native.Nat.{_-_}
 use mathlib.Core.Path.{sym, _∙_}
 use native.Mathlib.Omega.{arith}

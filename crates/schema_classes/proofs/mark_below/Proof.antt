@@ -1,4 +1,5 @@
--- The invariant: each child of a marked row from `row` on is marked. A child is a smaller row, so that the pass does not come too late for it.
+-- The invariant: each child of a marked row from `row` on is marked. A child is a smaller row, so that the pass does
+-- not come too late for it.
 use Prim.Native.Nat.{ℕ}
 use mathlib.Core.Path.{sym, _∙_, ap}
 use native.Mathlib.Omega.{arith}

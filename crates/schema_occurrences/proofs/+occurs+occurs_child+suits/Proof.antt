@@ -1,4 +1,5 @@
--- What is looked for occurs at the pattern or in a child of a connective; the table of comparisons stays right. The row number falls, and a search within a search is of a lower rank.
+-- What is looked for occurs at the pattern or in a child of a connective; the table of comparisons stays right. The row
+-- number falls, and a search within a search is of a lower rank.
 use mathlib.Core.Logic.{inl, inr}
 use mathlib.Core.Path.{sym, _∙_}
 use Prim.Native.Nat.{_<_, _+_, _*_, _^_, ℕ}

@@ -1,4 +1,5 @@
--- A group or interleave is at fault by two attributes that share a name, an attribute by an infinite class outside of a oneOrMore.
+-- A group or interleave is at fault by two attributes that share a name, an attribute by an infinite class outside of a
+-- oneOrMore.
 use mathlib.Core.Path.{sym, _∙_}
 use borrow.Author.Needs.{needs}
 use Rattle.schema_occurrences.proofs.Clashes.{sharing-decides, no-attribute-fault, repeated-right, infinite-decides}

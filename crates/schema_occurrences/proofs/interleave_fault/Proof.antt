@@ -1,4 +1,5 @@
--- An interleave is at fault by two refs that share a name, or by text on both sides. Each search leaves the table of comparisons right.
+-- An interleave is at fault by two refs that share a name, or by text on both sides. Each search leaves the table of
+-- comparisons right.
 use mathlib.Core.Path.{sym, _∙_}
 use borrow.Author.Needs.{needs}
 use Rattle.tables.proofs.Answers.{said-yes, said-no}

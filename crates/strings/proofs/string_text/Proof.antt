@@ -1,4 +1,5 @@
--- Where the strings keep their rule, the ends of a string are in order and within the bytes, so the part lies where it should.
+-- Where the strings keep their rule, the ends of a string are in order and within the bytes, so the part lies where it
+-- should.
 use mathlib.Core.Path.{refl}
 use Prim.Native.Nat.{suc, _-_}
 use native.Mathlib.Omega.{arith}
