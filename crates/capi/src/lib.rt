@@ -135,7 +135,8 @@ pub extern "C" fn farshavan_least_common_name(
     second: u32,
     name: &mut [u32],
 ) -> u64
-    ensures { λ r. ⌜ PackedLeast (stringTable (now (bytes .entry)) (now (ends .entry))) (now (schema .entry)) first second (now (name .entry)) (now (name .exit)) r ⌝ }
+    ensures { λ r.
+        ⌜ PackedLeast (stringTable (now (bytes .entry)) (now (ends .entry))) (now (schema .entry)) first second (now (name .entry)) (now (name .exit)) r ⌝ }
 {
     let answer = relaxng::least_common_name(bytes, ends, schema, first, second);
     lay_name(answer, name);
@@ -183,7 +184,9 @@ pub extern "C" fn farshavan_write_job(
     instance: &[u32],
     out: &mut [u8],
 ) -> u64
-    ensures { λ r. ⌜ PackedWrite (tablesOf (stringTable (now (bytes .entry)) (now (ends .entry))) (now (schema .entry)) (now (instance .entry))) (length (now (out .entry))) (now (out .exit)) r ⌝ }
+    ensures { λ r.
+        ⌜ PackedWrite (tablesOf (stringTable (now (bytes .entry)) (now (ends .entry))) (now (schema .entry)) (now (instance .entry)))
+        (length (now (out .entry))) (now (out .exit)) r ⌝ }
 {
     pack_written(job_writer::write_job(bytes, ends, schema, instance, out))
 }
@@ -219,7 +222,9 @@ pub extern "C" fn farshavan_read_job(
     instance: &mut [u32],
     counts: &mut [u32],
 ) -> u64
-    ensures { λ r. ⌜ PackedRead (now (file .entry)) (roomOf (now (bytes .entry)) (now (ends .entry)) (now (schema .entry)) (now (instance .entry))) (now (bytes .exit)) (now (ends .exit)) (now (schema .exit)) (now (instance .exit)) (now (counts .entry)) (now (counts .exit)) r ⌝ }
+    ensures { λ r.
+        ⌜ PackedRead (now (file .entry)) (roomOf (now (bytes .entry)) (now (ends .entry)) (now (schema .entry)) (now (instance .entry)))
+        (now (bytes .exit)) (now (ends .exit)) (now (schema .exit)) (now (instance .exit)) (now (counts .entry)) (now (counts .exit)) r ⌝ }
 {
     let answer = job_reader::read_job(file, bytes, ends, schema, instance);
     lay_counts(answer, counts);

@@ -200,8 +200,8 @@ fn note_child(instance: &[u32], last: &mut [u32], r: u32)
     }
 }
 
-// The first row that breaks its rule.
-fn first_wrong_node(strings: usize, instance: &[u32], last: &mut [u32]) -> Checked
+// The first row that breaks its rule, with a table of the last children.
+fn scan_nodes(strings: usize, instance: &[u32], last: &mut [u32]) -> Checked
     requires { ⌜ (nodesOf (now instance) ≤ maxNodes) × (now last ≡ zeros maxNodes) ⌝ }
     ensures { λ r. ⌜ Finds (BadNode strings (now (instance .entry))) r ⌝ }
 {
@@ -217,6 +217,15 @@ fn first_wrong_node(strings: usize, instance: &[u32], last: &mut [u32]) -> Check
     Checked::Fine
 }
 
+// The first row that breaks its rule.
+fn first_wrong_node(strings: usize, instance: &[u32]) -> Checked
+    requires { ⌜ nodesOf (now instance) ≤ maxNodes ⌝ }
+    ensures { λ r. ⌜ Finds (BadNode strings (now (instance .entry))) r ⌝ }
+{
+    let mut last = [0u32; MAX_NODES];
+    scan_nodes(strings, instance, &mut last)
+}
+
 // Code 9: the place of the first row that breaks the rule of instance rows, in a table beside so many strings.
 pub fn check_nodes(strings: usize, instance: &[u32]) -> Checked
     ensures { λ r. ⌜ Finds (NodeFault strings (now (instance .entry))) r ⌝ }
@@ -225,8 +234,7 @@ pub fn check_nodes(strings: usize, instance: &[u32]) -> Checked
     let Checked::Fine = size else {
         return size;
     };
-    let mut last = [0u32; MAX_NODES];
-    first_wrong_node(strings, instance, &mut last)
+    first_wrong_node(strings, instance)
 }
 
 // The attributes and the children of each row.

@@ -234,7 +234,9 @@ fn read_strings(
     ends: &mut [u32],
 ) -> Section
     requires { ⌜ (line ≤ maxFile) × (count ≤ maxStrings) ⌝ }
-    ensures { λ r. ⌜ StringSection (readStrings count line (linesOf (drop at (now (file .entry))))) (now (file .entry)) (now (bytes .entry)) (now (ends .entry)) (now (bytes .exit)) (now (ends .exit)) count (line + count) r ⌝ }
+    ensures { λ r.
+        ⌜ StringSection (readStrings count line (linesOf (drop at (now (file .entry))))) (now (file .entry)) (now (bytes .entry)) (now (ends .entry))
+        (now (bytes .exit)) (now (ends .exit)) count (line + count) r ⌝ }
 {
     let mut start = at;
     let mut used = 0;
@@ -265,7 +267,9 @@ fn read_rows(
     out: &mut [u32],
 ) -> Section
     requires { ⌜ (length (now file) ≤ maxFile) × (line ≤ maxFile) × (count ≤ maxNodes) × (width ≤ 5) ⌝ }
-    ensures { λ r. ⌜ RowSection (now (key .entry)) width (readRows count line (linesOf (drop at (now (file .entry))))) (now (file .entry)) (now (out .entry)) (now (out .exit)) (line + count) r ⌝ }
+    ensures { λ r.
+        ⌜ RowSection (now (key .entry)) width (readRows count line (linesOf (drop at (now (file .entry))))) (now (file .entry)) (now (out .entry))
+        (now (out .exit)) (line + count) r ⌝ }
 {
     let mut start = at;
     let mut used = 0;
@@ -296,7 +300,9 @@ fn read_table(
     out: &mut [u32],
 ) -> Section
     requires { ⌜ (length (now file) ≤ maxFile) × (line < maxFile) × (limit ≤ maxNodes) × (width ≤ 5) ⌝ }
-    ensures { λ r. ⌜ RowSection (now (key .entry)) width (readTable (now (counted .entry)) limit line (linesOf (drop at (now (file .entry))))) (now (file .entry)) (now (out .entry)) (now (out .exit)) (line + 1 + limit) r ⌝ }
+    ensures { λ r.
+        ⌜ RowSection (now (key .entry)) width (readTable (now (counted .entry)) limit line (linesOf (drop at (now (file .entry))))) (now (file .entry))
+        (now (out .entry)) (now (out .exit)) (line + 1 + limit) r ⌝ }
 {
     let Counted::Count(rows, next) = count_line(file, at, counted, limit) else {
         return Section::Wrong(line);
@@ -348,7 +354,9 @@ fn read_front(file: &[u8], bytes: &mut [u8], ends: &mut [u32]) -> Front
 // The two tables of rows and the last line, from a position and a line on.
 fn read_back(file: &[u8], at: usize, line: u32, schema: &mut [u32], instance: &mut [u32]) -> Back
     requires { ⌜ (length (now file) ≤ maxFile) × (line ≤ maxFront) ⌝ }
-    ensures { λ r. ⌜ BackRead (now (file .entry)) line (linesOf (drop at (now (file .entry)))) (now (schema .entry)) (now (instance .entry)) (now (schema .exit)) (now (instance .exit)) r ⌝ }
+    ensures { λ r.
+        ⌜ BackRead (now (file .entry)) line (linesOf (drop at (now (file .entry)))) (now (schema .entry)) (now (instance .entry)) (now (schema .exit))
+        (now (instance .exit)) r ⌝ }
 {
     let rows = read_table(
         file,
@@ -391,7 +399,9 @@ fn read_lines(
     schema: &mut [u32],
     instance: &mut [u32],
 ) -> Held
-    ensures { λ r. ⌜ LinesHeld (now (file .entry)) (now (bytes .entry)) (now (ends .entry)) (now (schema .entry)) (now (instance .entry)) (now (bytes .exit)) (now (ends .exit)) (now (schema .exit)) (now (instance .exit)) r ⌝ }
+    ensures { λ r.
+        ⌜ LinesHeld (now (file .entry)) (now (bytes .entry)) (now (ends .entry)) (now (schema .entry)) (now (instance .entry)) (now (bytes .exit))
+        (now (ends .exit)) (now (schema .exit)) (now (instance .exit)) r ⌝ }
 {
     if job::MAX_FILE < file.len() {
         return Held::Wrong(0);
@@ -407,7 +417,9 @@ fn read_lines(
 
 // All four outputs zero.
 pub fn zero_outputs(bytes: &mut [u8], ends: &mut [u32], schema: &mut [u32], instance: &mut [u32])
-    ensures { λ _. ⌜ OutputsHold noTables (roomOf (now (bytes .entry)) (now (ends .entry)) (now (schema .entry)) (now (instance .entry))) (now (bytes .exit)) (now (ends .exit)) (now (schema .exit)) (now (instance .exit)) ⌝ }
+    ensures { λ _.
+        ⌜ OutputsHold noTables (roomOf (now (bytes .entry)) (now (ends .entry)) (now (schema .entry)) (now (instance .entry))) (now (bytes .exit))
+        (now (ends .exit)) (now (schema .exit)) (now (instance .exit)) ⌝ }
 {
     tables::zero_u8(bytes);
     tables::zero_u32(ends);
@@ -424,7 +436,10 @@ pub fn read_tables(
     instance: &mut [u32],
 ) -> Held
     ensures answer { λ r. ⌜ r ≡ heldAs (readJob (now (file .entry))) ⌝ }
-    ensures outputs { λ _. ⌜ OutputsHold (tablesIn (readJob (now (file .entry)))) (roomOf (now (bytes .entry)) (now (ends .entry)) (now (schema .entry)) (now (instance .entry))) (now (bytes .exit)) (now (ends .exit)) (now (schema .exit)) (now (instance .exit)) ⌝ }
+    ensures outputs { λ _.
+        ⌜ OutputsHold (tablesIn (readJob (now (file .entry))))
+        (roomOf (now (bytes .entry)) (now (ends .entry)) (now (schema .entry)) (now (instance .entry))) (now (bytes .exit)) (now (ends .exit))
+        (now (schema .exit)) (now (instance .exit)) ⌝ }
 {
     zero_outputs(bytes, ends, schema, instance);
     let held = read_lines(file, bytes, ends, schema, instance);

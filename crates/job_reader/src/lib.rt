@@ -50,8 +50,13 @@ pub fn read_job(
     schema: &mut [u32],
     instance: &mut [u32],
 ) -> JobRead
-    ensures answer { λ r. ⌜ JobAnswer (readJob (now (file .entry))) (roomOf (now (bytes .entry)) (now (ends .entry)) (now (schema .entry)) (now (instance .entry))) r ⌝ }
-    ensures outputs { λ _. ⌜ OutputsHold (given (readJob (now (file .entry))) (roomOf (now (bytes .entry)) (now (ends .entry)) (now (schema .entry)) (now (instance .entry)))) (roomOf (now (bytes .entry)) (now (ends .entry)) (now (schema .entry)) (now (instance .entry))) (now (bytes .exit)) (now (ends .exit)) (now (schema .exit)) (now (instance .exit)) ⌝ }
+    ensures answer { λ r.
+        ⌜ JobAnswer (readJob (now (file .entry))) (roomOf (now (bytes .entry)) (now (ends .entry)) (now (schema .entry)) (now (instance .entry))) r ⌝ }
+    ensures outputs { λ _.
+        ⌜ OutputsHold
+        (given (readJob (now (file .entry))) (roomOf (now (bytes .entry)) (now (ends .entry)) (now (schema .entry)) (now (instance .entry))))
+        (roomOf (now (bytes .entry)) (now (ends .entry)) (now (schema .entry)) (now (instance .entry))) (now (bytes .exit)) (now (ends .exit))
+        (now (schema .exit)) (now (instance .exit)) ⌝ }
 {
     match job_lines::read_tables(file, bytes, ends, schema, instance) {
         Held::Wrong(line) => JobRead::NotRead(13, line),

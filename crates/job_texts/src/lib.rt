@@ -104,7 +104,9 @@ fn put_words(out: &mut [u8], at: usize, table: &[u32], first: usize, width: usiz
 // The line of a string.
 fn put_string(out: &mut [u8], at: usize, bytes: &[u8], ends: &[u32], k: usize) -> usize
     requires { ⌜ (length (now bytes) ≤ maxBytes) × (at + 40000 < far) ⌝ }
-    ensures { λ r. ⌜ Wrote (now (out .entry)) at ((ascii "s=" ++ hexText (textOf (stringTable (now (bytes .entry)) (now (ends .entry))) k)) ++ lineFeed ∷ []) (now (out .exit)) r ⌝ }
+    ensures { λ r.
+        ⌜ Wrote (now (out .entry)) at ((ascii "s=" ++ hexText (textOf (stringTable (now (bytes .entry)) (now (ends .entry))) k)) ++ lineFeed ∷ [])
+        (now (out .exit)) r ⌝ }
     ensures near { λ r. ⌜ r ≤ at + 40000 ⌝ }
 {
     let p = put_text(out, at, b"s=");
@@ -115,7 +117,9 @@ fn put_string(out: &mut [u8], at: usize, bytes: &[u8], ends: &[u32], k: usize) -
 // The lines of all strings.
 fn put_strings(out: &mut [u8], at: usize, bytes: &[u8], ends: &[u32]) -> usize
     requires { ⌜ (length (now bytes) ≤ maxBytes) × (length (now ends) ≤ maxStrings) × (at ≤ 100) ⌝ }
-    ensures { λ r. ⌜ Wrote (now (out .entry)) at (textOfLines (stringLines (stringTable (now (bytes .entry)) (now (ends .entry))) 0 (length (now (ends .entry))))) (now (out .exit)) r ⌝ }
+    ensures { λ r.
+        ⌜ Wrote (now (out .entry)) at (textOfLines (stringLines (stringTable (now (bytes .entry)) (now (ends .entry))) 0 (length (now (ends .entry)))))
+        (now (out .exit)) r ⌝ }
     ensures near { λ r. ⌜ r ≤ 100 + 40000 * maxStrings ⌝ }
 {
     let mut k = 0;
@@ -148,7 +152,9 @@ fn put_row(
     width: usize,
 ) -> usize
     requires { ⌜ (0 < width) × (width ≤ 5) × (first + width ≤ length (now table)) × (length (now key) ≤ 5) × (at + 200 < far) ⌝ }
-    ensures { λ r. ⌜ Wrote (now (out .entry)) at ((now (key .entry) ++ wordsText (take width (drop first (now (table .entry))))) ++ lineFeed ∷ []) (now (out .exit)) r ⌝ }
+    ensures { λ r.
+        ⌜ Wrote (now (out .entry)) at ((now (key .entry) ++ wordsText (take width (drop first (now (table .entry))))) ++ lineFeed ∷ []) (now (out .exit))
+        r ⌝ }
     ensures near { λ r. ⌜ r ≤ at + 100 ⌝ }
 {
     let p = put_text(out, at, key);
@@ -189,7 +195,9 @@ pub fn put_job(
     instance: &[u32],
 ) -> usize
     requires { ⌜ Sized (tablesOf (stringTable (now bytes) (now ends)) (now schema) (now instance)) ⌝ }
-    ensures { λ r. ⌜ Wrote (now (out .entry)) 0 (jobText (tablesOf (stringTable (now (bytes .entry)) (now (ends .entry))) (now (schema .entry)) (now (instance .entry)))) (now (out .exit)) r ⌝ }
+    ensures { λ r.
+        ⌜ Wrote (now (out .entry)) 0
+        (jobText (tablesOf (stringTable (now (bytes .entry)) (now (ends .entry))) (now (schema .entry)) (now (instance .entry)))) (now (out .exit)) r ⌝ }
 {
     let rows = schema.len() / 3;
     let nodes = instance.len() / 5;

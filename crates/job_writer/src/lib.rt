@@ -57,7 +57,9 @@ pub fn write_job(
     instance: &[u32],
     out: &mut [u8],
 ) -> JobWritten
-    ensures { λ r. ⌜ WriteJob (tablesOf (stringTable (now (bytes .entry)) (now (ends .entry))) (now (schema .entry)) (now (instance .entry))) (length (now (out .entry))) (now (out .exit)) r ⌝ }
+    ensures { λ r.
+        ⌜ WriteJob (tablesOf (stringTable (now (bytes .entry)) (now (ends .entry))) (now (schema .entry)) (now (instance .entry)))
+        (length (now (out .entry))) (now (out .exit)) r ⌝ }
 {
     let strings = strings::check_strings(bytes, ends);
     let Checked::Fine = strings else {

@@ -95,7 +95,9 @@ fn operands(
     work: &mut [u64],
 )
     requires { ⌜ SharedOut (now schema) (now marks) (now named) (now taken) (now single) m p a1 k1 a2 k2 (now work) ⌝ }
-    ensures { λ _. ⌜ Operands (now (schema .entry)) (now (marks .entry)) (now (named .entry)) (now (taken .entry)) (now (single .entry)) m p a1 k1 a2 k2 (now (work .exit)) ⌝ }
+    ensures { λ _.
+        ⌜ Operands (now (schema .entry)) (now (marks .entry)) (now (named .entry)) (now (taken .entry)) (now (single .entry)) m p a1 k1 a2 k2
+        (now (work .exit)) ⌝ }
 {
     let p1 = schema::field_a(schema, p);
     let p2 = schema::field_b(schema, p);
@@ -128,7 +130,9 @@ fn one_or_more(
     work: &mut [u64],
 )
     requires { ⌜ (kindOf (now schema) p ≡ kind.oneOrMore) × Relatable (now schema) (now marks) (now named) (now taken) (now single) m a k p (now work) ⌝ }
-    ensures { λ _. ⌜ HoldsRelated (now (schema .entry)) (now (marks .entry)) (now (named .entry)) (now (taken .entry)) (now (single .entry)) m a k p (front m (now (work .exit))) ⌝ }
+    ensures { λ _.
+        ⌜ HoldsRelated (now (schema .entry)) (now (marks .entry)) (now (named .entry)) (now (taken .entry)) (now (single .entry)) m a k p
+        (front m (now (work .exit))) ⌝ }
 {
     let q = schema::field_a(schema, p);
     relate(schema, marks, named, taken, single, m, 0, k, q, work);
@@ -149,7 +153,9 @@ fn choice(
     work: &mut [u64],
 )
     requires { ⌜ (kindOf (now schema) p ≡ kind.choice) × Relatable (now schema) (now marks) (now named) (now taken) (now single) m a k p (now work) ⌝ }
-    ensures { λ _. ⌜ HoldsRelated (now (schema .entry)) (now (marks .entry)) (now (named .entry)) (now (taken .entry)) (now (single .entry)) m a k p (front m (now (work .exit))) ⌝ }
+    ensures { λ _.
+        ⌜ HoldsRelated (now (schema .entry)) (now (marks .entry)) (now (named .entry)) (now (taken .entry)) (now (single .entry)) m a k p
+        (front m (now (work .exit))) ⌝ }
 {
     operands(schema, marks, named, taken, single, m, p, a, k, a, k, work);
     relations::union(m, work);
@@ -169,7 +175,9 @@ fn group(
     work: &mut [u64],
 )
     requires { ⌜ (kindOf (now schema) p ≡ kind.group) × Relatable (now schema) (now marks) (now named) (now taken) (now single) m a k p (now work) ⌝ }
-    ensures { λ _. ⌜ HoldsRelated (now (schema .entry)) (now (marks .entry)) (now (named .entry)) (now (taken .entry)) (now (single .entry)) m a k p (front m (now (work .exit))) ⌝ }
+    ensures { λ _.
+        ⌜ HoldsRelated (now (schema .entry)) (now (marks .entry)) (now (named .entry)) (now (taken .entry)) (now (single .entry)) m a k p
+        (front m (now (work .exit))) ⌝ }
 {
     let n = sets::word(named, schema::field_a(schema, p));
     let a1 = a & n;
@@ -205,7 +213,9 @@ fn interleave(
     work: &mut [u64],
 )
     requires { ⌜ (kindOf (now schema) p ≡ kind.interleave) × Relatable (now schema) (now marks) (now named) (now taken) (now single) m a k p (now work) ⌝ }
-    ensures { λ _. ⌜ HoldsRelated (now (schema .entry)) (now (marks .entry)) (now (named .entry)) (now (taken .entry)) (now (single .entry)) m a k p (front m (now (work .exit))) ⌝ }
+    ensures { λ _.
+        ⌜ HoldsRelated (now (schema .entry)) (now (marks .entry)) (now (named .entry)) (now (taken .entry)) (now (single .entry)) m a k p
+        (front m (now (work .exit))) ⌝ }
 {
     let q = schema::field_a(schema, p);
     let n = sets::word(named, q);
@@ -246,7 +256,9 @@ pub fn relate(
     work: &mut [u64],
 )
     requires { ⌜ Relatable (now schema) (now marks) (now named) (now taken) (now single) m a k p (now work) ⌝ }
-    ensures { λ _. ⌜ HoldsRelated (now (schema .entry)) (now (marks .entry)) (now (named .entry)) (now (taken .entry)) (now (single .entry)) m a k p (front m (now (work .exit))) ⌝ }
+    ensures { λ _.
+        ⌜ HoldsRelated (now (schema .entry)) (now (marks .entry)) (now (named .entry)) (now (taken .entry)) (now (single .entry)) m a k p
+        (front m (now (work .exit))) ⌝ }
 {
     let kind = schema::kind(schema, p);
     match kind {

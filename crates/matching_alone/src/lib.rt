@@ -217,8 +217,11 @@ fn fill_equal(
     datatype: u32,
     v: u32,
 )
-    requires { ⌜ (p < 512) × (length (now ends) ≤ 512) × (262144 ≤ length (now alone)) × LeadsTo (stringTable (now bytes) (now ends)) (now leads) (length (now ends)) ⌝ }
-    ensures { λ _. ⌜ RowOf (EqualTo (stringTable (now (bytes .entry)) (now (ends .entry))) datatype v) (now (alone .entry)) (now (alone .exit)) p (length (now (ends .entry))) ⌝ }
+    requires { ⌜ (p < 512) × (length (now ends) ≤ 512) × (262144 ≤ length (now alone))
+        × LeadsTo (stringTable (now bytes) (now ends)) (now leads) (length (now ends)) ⌝ }
+    ensures { λ _.
+        ⌜ RowOf (EqualTo (stringTable (now (bytes .entry)) (now (ends .entry))) datatype v) (now (alone .entry)) (now (alone .exit)) p
+        (length (now (ends .entry))) ⌝ }
 {
     let own = strings::text(bytes, ends, v as usize);
     let first = lead(own);
@@ -265,8 +268,11 @@ fn fill_value(
     noted: &mut [u32; 1024],
     p: u32,
 )
-    requires { ⌜ (p < 512) × (length (now ends) ≤ 512) × (262144 ≤ length (now alone)) × LeadsTo (stringTable (now bytes) (now ends)) (now leads) (length (now ends)) ⌝ }
-    ensures { λ _. ⌜ ((nothing : List ℕ) → kindOf (now (schema .entry)) p ≡ value → RowMade (stringTable (now (bytes .entry)) (now (ends .entry))) (now (schema .entry)) (now (alone .entry)) nothing (now (alone .exit)) p) ⌝ }
+    requires { ⌜ (p < 512) × (length (now ends) ≤ 512) × (262144 ≤ length (now alone))
+        × LeadsTo (stringTable (now bytes) (now ends)) (now leads) (length (now ends)) ⌝ }
+    ensures { λ _.
+        ⌜ ((nothing : List ℕ) → kindOf (now (schema .entry)) p ≡ value → RowMade (stringTable (now (bytes .entry)) (now (ends .entry)))
+        (now (schema .entry)) (now (alone .entry)) nothing (now (alone .exit)) p) ⌝ }
 {
     let a = schema::field_a(schema, p);
     let b = schema::field_b(schema, p);
@@ -291,8 +297,11 @@ fn fill_row(
     noted: &mut [u32; 1024],
     p: u32,
 )
-    requires { ⌜ (p < 512) × (length (now ends) ≤ 512) × (262144 ≤ length (now alone)) × LeadsTo (stringTable (now bytes) (now ends)) (now leads) (length (now ends)) ⌝ }
-    ensures { λ _. ⌜ RowMade (stringTable (now (bytes .entry)) (now (ends .entry))) (now (schema .entry)) (now (alone .entry)) (now (nothing .entry)) (now (alone .exit)) p ⌝ }
+    requires { ⌜ (p < 512) × (length (now ends) ≤ 512) × (262144 ≤ length (now alone))
+        × LeadsTo (stringTable (now bytes) (now ends)) (now leads) (length (now ends)) ⌝ }
+    ensures { λ _.
+        ⌜ RowMade (stringTable (now (bytes .entry)) (now (ends .entry))) (now (schema .entry)) (now (alone .entry)) (now (nothing .entry))
+        (now (alone .exit)) p ⌝ }
 {
     let kind = schema::kind(schema, p);
     let a = schema::field_a(schema, p);
@@ -320,7 +329,9 @@ fn fill_rows(
     rows: u32,
 )
     requires { ⌜ (rows ≤ 512) × (length (now ends) ≤ 512) × (262144 ≤ length (now alone)) × (512 ≤ length (now nothing)) ⌝ }
-    ensures { λ _. ⌜ (SchemaPasses (length (now (ends .entry))) (now (schema .entry)) → Alone (stringTable (now (bytes .entry)) (now (ends .entry))) (now (schema .entry)) (now (alone .exit)) (now (nothing .exit)) rows) ⌝ }
+    ensures { λ _.
+        ⌜ (SchemaPasses (length (now (ends .entry))) (now (schema .entry)) → Alone (stringTable (now (bytes .entry)) (now (ends .entry)))
+        (now (schema .entry)) (now (alone .exit)) (now (nothing .exit)) rows) ⌝ }
 {
     let mut leads = [0u8; 512];
     fill_leads(bytes, ends, &mut leads);
@@ -367,7 +378,9 @@ pub fn fill(
     blank: &mut [u8],
 )
     requires { ⌜ FillReady (stringTable (now bytes) (now ends)) (now schema) (now alone) (now nothing) (now blank) ⌝ }
-    ensures { λ _. ⌜ Filled (stringTable (now (bytes .entry)) (now (ends .entry))) (now (schema .entry)) (now (alone .exit)) (now (nothing .exit)) (now (blank .exit)) ⌝ }
+    ensures { λ _.
+        ⌜ Filled (stringTable (now (bytes .entry)) (now (ends .entry))) (now (schema .entry)) (now (alone .exit)) (now (nothing .exit))
+        (now (blank .exit)) ⌝ }
 {
     fill_blank(bytes, ends, blank);
     fill_rows(

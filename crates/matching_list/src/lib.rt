@@ -62,7 +62,9 @@ fn put_marked(table: &[u8], e: u32, d: u32, list: &mut [u32], n: u32) -> u32
 // The marked definitions of one row.
 fn put_row(table: &[u8], definitions: &[u32], e: u32, list: &mut [u32], n: u32) -> u32
     requires { ⌜ (e < maxNodes) × (length (now definitions) ≤ maxRows) × (n ≤ e * maxRows) ⌝ }
-    ensures { λ r. ⌜ PutPairs (now (list .entry)) n (rowPairs (now (table .entry)) (now (definitions .entry)) e (length (now (definitions .entry)))) (now (list .exit)) r ⌝ }
+    ensures { λ r.
+        ⌜ PutPairs (now (list .entry)) n (rowPairs (now (table .entry)) (now (definitions .entry)) e (length (now (definitions .entry))))
+        (now (list .exit)) r ⌝ }
     ensures few { λ r. ⌜ r ≤ n + length (now (definitions .entry)) ⌝ }
 {
     let mut k = 0;
@@ -149,7 +151,9 @@ fn list_matches(
     list: &mut [u32],
 ) -> Answer
     requires { ⌜ Pairable (tablesOf (stringTable (now bytes) (now ends)) (now schema) (now instance)) (now pairs) ⌝ }
-    ensures { λ r. ⌜ ListAnswer (tablesOf (stringTable (now (bytes .entry)) (now (ends .entry))) (now (schema .entry)) (now (instance .entry))) (length (now (list .entry))) (now (list .exit)) r ⌝ }
+    ensures { λ r.
+        ⌜ ListAnswer (tablesOf (stringTable (now (bytes .entry)) (now (ends .entry))) (now (schema .entry)) (now (instance .entry)))
+        (length (now (list .entry))) (now (list .exit)) r ⌝ }
 {
     matching_pairs::pair_table(bytes, ends, schema, instance, pairs);
     let mut rows = [0u32; schema::MAX_ROWS];
@@ -175,7 +179,9 @@ pub fn match_pairs(
     list: &mut [u32],
 ) -> Answer
     requires { ⌜ TablesPass (tablesOf (stringTable (now bytes) (now ends)) (now schema) (now instance)) ⌝ }
-    ensures { λ r. ⌜ ListAnswer (tablesOf (stringTable (now (bytes .entry)) (now (ends .entry))) (now (schema .entry)) (now (instance .entry))) (length (now (list .entry))) (now (list .exit)) r ⌝ }
+    ensures { λ r.
+        ⌜ ListAnswer (tablesOf (stringTable (now (bytes .entry)) (now (ends .entry))) (now (schema .entry)) (now (instance .entry)))
+        (length (now (list .entry))) (now (list .exit)) r ⌝ }
 {
     let mut pairs = [0u8; instance::MAX_NODES * schema::MAX_ROWS];
     list_matches(bytes, ends, schema, instance, &mut pairs, list)

@@ -150,7 +150,9 @@ fn attributes_fitting(
 
 // The union of the words of the operands of row p.
 fn operand_words(schema: &[u32], words: &[u64], p: u32) -> u64
-    ensures { λ r. ⌜ r ≡ joinedBy (kindOf (now (schema .entry)) p) (getD (now (words .entry)) (aOf (now (schema .entry)) p) 0) (getD (now (words .entry)) (bOf (now (schema .entry)) p) 0) ⌝ }
+    ensures { λ r.
+        ⌜ r ≡ joinedBy (kindOf (now (schema .entry)) p) (getD (now (words .entry)) (aOf (now (schema .entry)) p) 0)
+        (getD (now (words .entry)) (bOf (now (schema .entry)) p) 0) ⌝ }
 {
     let first = sets::word(words, schema::field_a(schema, p));
     let second = sets::word(words, schema::field_b(schema, p));
@@ -176,7 +178,9 @@ fn leaf_word(
     p: u32,
 ) -> u64
     requires { ⌜ (attributes ≤ maxWidth) × (length (now items) ≤ maxWidth) ⌝ }
-    ensures { λ r. ⌜ LeafAnswer (now (schema .entry)) (now (instance .entry)) (now (alone .entry)) (now (nothing .entry)) (now (blank .entry)) (now (pairs .entry)) (now (items .entry)) e attributes texts p r ⌝ }
+    ensures { λ r.
+        ⌜ LeafAnswer (now (schema .entry)) (now (instance .entry)) (now (alone .entry)) (now (nothing .entry)) (now (blank .entry)) (now (pairs .entry))
+        (now (items .entry)) e attributes texts p r ⌝ }
 {
     let a = schema::field_a(schema, p);
     let b = schema::field_b(schema, p);
@@ -261,7 +265,10 @@ fn mark_row(
     single: &mut [u64],
 )
     requires { ⌜ RowRoom (now items) (now marks) (now named) (now taken) (now single) attributes p ⌝ }
-    ensures { λ _. ⌜ RowAnswer (now (schema .entry)) (now (instance .entry)) (now (alone .entry)) (now (nothing .entry)) (now (blank .entry)) (now (pairs .entry)) (now (items .entry)) e attributes texts (now (marks .entry)) (now (named .entry)) (now (taken .entry)) (now (single .entry)) (now (marks .exit)) (now (named .exit)) (now (taken .exit)) (now (single .exit)) p ⌝ }
+    ensures { λ _.
+        ⌜ RowAnswer (now (schema .entry)) (now (instance .entry)) (now (alone .entry)) (now (nothing .entry)) (now (blank .entry)) (now (pairs .entry))
+        (now (items .entry)) e attributes texts (now (marks .entry)) (now (named .entry)) (now (taken .entry)) (now (single .entry))
+        (now (marks .exit)) (now (named .exit)) (now (taken .exit)) (now (single .exit)) p ⌝ }
 {
     let leaf = leaf_word(
         schema,
@@ -326,7 +333,10 @@ fn mark_smaller(
     single: &mut [u64],
 )
     requires { ⌜ RowRoom (now items) (now marks) (now named) (now taken) (now single) attributes p ⌝ }
-    ensures { λ _. ⌜ SmallerAnswer (now (schema .entry)) (now (instance .entry)) (now (alone .entry)) (now (nothing .entry)) (now (blank .entry)) (now (pairs .entry)) (now (items .entry)) e attributes texts (now (marks .entry)) (now (named .entry)) (now (taken .entry)) (now (single .entry)) (now (marks .exit)) (now (named .exit)) (now (taken .exit)) (now (single .exit)) q p ⌝ }
+    ensures { λ _.
+        ⌜ SmallerAnswer (now (schema .entry)) (now (instance .entry)) (now (alone .entry)) (now (nothing .entry)) (now (blank .entry))
+        (now (pairs .entry)) (now (items .entry)) e attributes texts (now (marks .entry)) (now (named .entry)) (now (taken .entry))
+        (now (single .entry)) (now (marks .exit)) (now (named .exit)) (now (taken .exit)) (now (single .exit)) q p ⌝ }
 {
     if q < p {
         mark_pattern(
@@ -368,7 +378,10 @@ fn mark_operands(
     single: &mut [u64],
 )
     requires { ⌜ RowRoom (now items) (now marks) (now named) (now taken) (now single) attributes p ⌝ }
-    ensures { λ _. ⌜ OperandsAnswer (now (schema .entry)) (now (instance .entry)) (now (alone .entry)) (now (nothing .entry)) (now (blank .entry)) (now (pairs .entry)) (now (items .entry)) e attributes texts (now (marks .entry)) (now (named .entry)) (now (taken .entry)) (now (single .entry)) (now (marks .exit)) (now (named .exit)) (now (taken .exit)) (now (single .exit)) p ⌝ }
+    ensures { λ _.
+        ⌜ OperandsAnswer (now (schema .entry)) (now (instance .entry)) (now (alone .entry)) (now (nothing .entry)) (now (blank .entry))
+        (now (pairs .entry)) (now (items .entry)) e attributes texts (now (marks .entry)) (now (named .entry)) (now (taken .entry))
+        (now (single .entry)) (now (marks .exit)) (now (named .exit)) (now (taken .exit)) (now (single .exit)) p ⌝ }
 {
     let first = first_operand(schema, p);
     let second = second_operand(schema, p);
@@ -429,7 +442,10 @@ fn mark_pattern(
     single: &mut [u64],
 )
     requires { ⌜ RowRoom (now items) (now marks) (now named) (now taken) (now single) attributes p ⌝ }
-    ensures { λ _. ⌜ PatternAnswer (now (schema .entry)) (now (instance .entry)) (now (alone .entry)) (now (nothing .entry)) (now (blank .entry)) (now (pairs .entry)) (now (items .entry)) e attributes texts (now (marks .entry)) (now (named .entry)) (now (taken .entry)) (now (single .entry)) (now (marks .exit)) (now (named .exit)) (now (taken .exit)) (now (single .exit)) p ⌝ }
+    ensures { λ _.
+        ⌜ PatternAnswer (now (schema .entry)) (now (instance .entry)) (now (alone .entry)) (now (nothing .entry)) (now (blank .entry))
+        (now (pairs .entry)) (now (items .entry)) e attributes texts (now (marks .entry)) (now (named .entry)) (now (taken .entry))
+        (now (single .entry)) (now (marks .exit)) (now (named .exit)) (now (taken .exit)) (now (single .exit)) p ⌝ }
 {
     mark_operands(
         schema,
@@ -487,8 +503,12 @@ pub fn mark(
     taken: &mut [u64],
     single: &mut [u64],
 )
-    requires { ⌜ Markable (now schema) (now instance) (now alone) (now nothing) (now blank) (now pairs) (now items) e attributes texts p (now marks) (now named) (now taken) (now single) ⌝ }
-    ensures { λ _. ⌜ MarksPattern (now (schema .entry)) (now (instance .entry)) (now (alone .entry)) (now (nothing .entry)) (now (blank .entry)) (now (pairs .entry)) (now (items .entry)) e attributes texts p (now (marks .entry)) (now (named .entry)) (now (taken .entry)) (now (single .entry)) (now (marks .exit)) (now (named .exit)) (now (taken .exit)) (now (single .exit)) ⌝ }
+    requires { ⌜ Markable (now schema) (now instance) (now alone) (now nothing) (now blank) (now pairs) (now items) e attributes texts p (now marks) (now named)
+        (now taken) (now single) ⌝ }
+    ensures { λ _.
+        ⌜ MarksPattern (now (schema .entry)) (now (instance .entry)) (now (alone .entry)) (now (nothing .entry)) (now (blank .entry)) (now (pairs .entry))
+        (now (items .entry)) e attributes texts p (now (marks .entry)) (now (named .entry)) (now (taken .entry)) (now (single .entry))
+        (now (marks .exit)) (now (named .exit)) (now (taken .exit)) (now (single .exit)) ⌝ }
 {
     mark_pattern(
         schema,

@@ -31,7 +31,9 @@ fn all_match(
     work: &mut [u64],
 ) -> bool
     requires { ⌜ Relatable (now schema) (now marks) (now named) (now taken) (now single) (n + 1) a k p (now work) ⌝ }
-    ensures { λ r. ⌜ ((S : Setting (now (schema .entry))) → Asked S a k → Covered S (now (marks .entry)) (now (named .entry)) (now (taken .entry)) (now (single .entry)) p → Decides (Related S (n + 1) a k p 0 n) r) ⌝ }
+    ensures { λ r.
+        ⌜ ((S : Setting (now (schema .entry))) → Asked S a k → Covered S (now (marks .entry)) (now (named .entry)) (now (taken .entry))
+        (now (single .entry)) p → Decides (Related S (n + 1) a k p 0 n) r) ⌝ }
 {
     matching::relate(schema, marks, named, taken, single, n + 1, a, k, p, work);
     sets::has(sets::word(work, 0), n)
@@ -52,7 +54,9 @@ fn content_fits(
     work: &mut [u64],
 ) -> bool
     requires { ⌜ Relatable (now schema) (now marks) (now named) (now taken) (now single) (n + 1) a k p (now work) ⌝ }
-    ensures { λ r. ⌜ ((S : Setting (now (schema .entry))) → Asked S a k → Covered S (now (marks .entry)) (now (named .entry)) (now (taken .entry)) (now (single .entry)) p → Decides (Fits S n a k weak p) r) ⌝ }
+    ensures { λ r.
+        ⌜ ((S : Setting (now (schema .entry))) → Asked S a k → Covered S (now (marks .entry)) (now (named .entry)) (now (taken .entry))
+        (now (single .entry)) p → Decides (Fits S n a k weak p) r) ⌝ }
 {
     if all_match(schema, marks, named, taken, single, n, a, k, p, work) {
         return true;
@@ -85,8 +89,13 @@ fn pair_at(
     single: &mut [u64],
     work: &mut [u64],
 ) -> u8
-    requires { ⌜ Space (now marks) (now named) (now taken) (now single) (now work) × PairAsked (now schema) (now instance) (now alone) (now nothing) (now blank) (now pairs) (now items) e attributes texts a k weak d ⌝ }
-    ensures { λ v. ⌜ ((T : StringTable) → Given (tablesOf T (now (schema .entry)) (now (instance .entry))) (now (alone .entry)) (now (nothing .entry)) (now (blank .entry)) (now (pairs .entry)) (now (items .entry)) e attributes texts → Shown (tablesOf T (now (schema .entry)) (now (instance .entry))) (now (items .entry)) e attributes texts a k weak → (v ≡ 1) ↔ IsPair (tablesOf T (now (schema .entry)) (now (instance .entry))) e d) ⌝ }
+    requires { ⌜ Space (now marks) (now named) (now taken) (now single) (now work)
+        × PairAsked (now schema) (now instance) (now alone) (now nothing) (now blank) (now pairs) (now items) e attributes texts a k weak d ⌝ }
+    ensures { λ v.
+        ⌜ ((T : StringTable) → Given (tablesOf T (now (schema .entry)) (now (instance .entry))) (now (alone .entry)) (now (nothing .entry))
+        (now (blank .entry)) (now (pairs .entry)) (now (items .entry)) e attributes texts → Shown
+        (tablesOf T (now (schema .entry)) (now (instance .entry))) (now (items .entry)) e attributes texts a k weak → (v ≡ 1) ↔ IsPair
+        (tablesOf T (now (schema .entry)) (now (instance .entry))) e d) ⌝ }
 {
     let class = schema::field_a(schema, d);
     let namespace = instance::field_a(instance, e);
@@ -141,8 +150,13 @@ fn pair_row(
     single: &mut [u64],
     work: &mut [u64],
 )
-    requires { ⌜ Space (now marks) (now named) (now taken) (now single) (now work) × RowAsked (now schema) (now instance) (now alone) (now nothing) (now blank) (now pairs) (now items) e attributes texts a k weak × Definitions (now schema) (now definitions) (length (now definitions)) ⌝ }
-    ensures { λ _. ⌜ ((T : StringTable) → ElementReady (tablesOf T (now (schema .entry)) (now (instance .entry))) (now (alone .entry)) (now (nothing .entry)) (now (blank .entry)) (now (pairs .entry)) (now (items .entry)) e attributes texts a k weak → RowRight (tablesOf T (now (schema .entry)) (now (instance .entry))) (now (pairs .entry)) (now (pairs .exit)) e) ⌝ }
+    requires { ⌜ Space (now marks) (now named) (now taken) (now single) (now work)
+        × RowAsked (now schema) (now instance) (now alone) (now nothing) (now blank) (now pairs) (now items) e attributes texts a k weak
+        × Definitions (now schema) (now definitions) (length (now definitions)) ⌝ }
+    ensures { λ _.
+        ⌜ ((T : StringTable) → ElementReady (tablesOf T (now (schema .entry)) (now (instance .entry))) (now (alone .entry)) (now (nothing .entry))
+        (now (blank .entry)) (now (pairs .entry)) (now (items .entry)) e attributes texts a k weak → RowRight
+        (tablesOf T (now (schema .entry)) (now (instance .entry))) (now (pairs .entry)) (now (pairs .exit)) e) ⌝ }
 {
     let mut i: usize = 0;
     while i < definitions.len() {
@@ -259,8 +273,13 @@ fn pair_element(
     single: &mut [u64],
     work: &mut [u64],
 )
-    requires { ⌜ Space (now marks) (now named) (now taken) (now single) (now work) × NodeAsked (now schema) (now instance) (now alone) (now nothing) (now blank) (now pairs) (now items) e × (isElement (now instance) e ≡ true) × Definitions (now schema) (now definitions) (length (now definitions)) ⌝ }
-    ensures { λ _. ⌜ ((T : StringTable) → Filling (tablesOf T (now (schema .entry)) (now (instance .entry))) (now (alone .entry)) (now (nothing .entry)) (now (blank .entry)) (now (pairs .entry)) (e + 1) → RowRight (tablesOf T (now (schema .entry)) (now (instance .entry))) (now (pairs .entry)) (now (pairs .exit)) e) ⌝ }
+    requires { ⌜ Space (now marks) (now named) (now taken) (now single) (now work)
+        × NodeAsked (now schema) (now instance) (now alone) (now nothing) (now blank) (now pairs) (now items) e
+        × (isElement (now instance) e ≡ true) × Definitions (now schema) (now definitions) (length (now definitions)) ⌝ }
+    ensures { λ _.
+        ⌜ ((T : StringTable) → Filling (tablesOf T (now (schema .entry)) (now (instance .entry))) (now (alone .entry)) (now (nothing .entry))
+        (now (blank .entry)) (now (pairs .entry)) (e + 1) → RowRight (tablesOf T (now (schema .entry)) (now (instance .entry))) (now (pairs .entry))
+        (now (pairs .exit)) e) ⌝ }
 {
     let attributes = matching_contents::attributes(instance, e);
     let a = sets::up_to(attributes);
@@ -310,8 +329,13 @@ fn pair_node(
     single: &mut [u64],
     work: &mut [u64],
 )
-    requires { ⌜ Space (now marks) (now named) (now taken) (now single) (now work) × NodeAsked (now schema) (now instance) (now alone) (now nothing) (now blank) (now pairs) (now items) e × Definitions (now schema) (now definitions) (length (now definitions)) ⌝ }
-    ensures { λ _. ⌜ ((T : StringTable) → Filling (tablesOf T (now (schema .entry)) (now (instance .entry))) (now (alone .entry)) (now (nothing .entry)) (now (blank .entry)) (now (pairs .entry)) (e + 1) → Filling (tablesOf T (now (schema .entry)) (now (instance .entry))) (now (alone .entry)) (now (nothing .entry)) (now (blank .entry)) (now (pairs .exit)) e) ⌝ }
+    requires { ⌜ Space (now marks) (now named) (now taken) (now single) (now work)
+        × NodeAsked (now schema) (now instance) (now alone) (now nothing) (now blank) (now pairs) (now items) e
+        × Definitions (now schema) (now definitions) (length (now definitions)) ⌝ }
+    ensures { λ _.
+        ⌜ ((T : StringTable) → Filling (tablesOf T (now (schema .entry)) (now (instance .entry))) (now (alone .entry)) (now (nothing .entry))
+        (now (blank .entry)) (now (pairs .entry)) (e + 1) → Filling (tablesOf T (now (schema .entry)) (now (instance .entry))) (now (alone .entry))
+        (now (nothing .entry)) (now (blank .entry)) (now (pairs .exit)) e) ⌝ }
 {
     if instance::kind(instance, e) != instance::ELEMENT {
         return;
@@ -350,8 +374,14 @@ fn pair_all(
     single: &mut [u64],
     work: &mut [u64],
 )
-    requires { ⌜ Space (now marks) (now named) (now taken) (now single) (now work) × TableAsked (now schema) (now instance) (now alone) (now nothing) (now blank) (now pairs) (now items) × Definitions (now schema) (now definitions) (length (now definitions)) ⌝ }
-    ensures { λ _. ⌜ ((T : StringTable) → Filling (tablesOf T (now (schema .entry)) (now (instance .entry))) (now (alone .entry)) (now (nothing .entry)) (now (blank .entry)) (now (pairs .entry)) (nodesOf (now (instance .entry))) → Filling (tablesOf T (now (schema .entry)) (now (instance .entry))) (now (alone .entry)) (now (nothing .entry)) (now (blank .entry)) (now (pairs .exit)) 0) ⌝ }
+    requires { ⌜ Space (now marks) (now named) (now taken) (now single) (now work)
+        × TableAsked (now schema) (now instance) (now alone) (now nothing) (now blank) (now pairs) (now items)
+        × Definitions (now schema) (now definitions) (length (now definitions)) ⌝ }
+    ensures { λ _.
+        ⌜ ((T : StringTable) → Filling (tablesOf T (now (schema .entry)) (now (instance .entry))) (now (alone .entry)) (now (nothing .entry))
+        (now (blank .entry)) (now (pairs .entry)) (nodesOf (now (instance .entry))) → Filling
+        (tablesOf T (now (schema .entry)) (now (instance .entry))) (now (alone .entry)) (now (nothing .entry)) (now (blank .entry))
+        (now (pairs .exit)) 0) ⌝ }
 {
     let mut r = instance.len() / 5;
     while r > 0 {
@@ -378,7 +408,8 @@ fn pair_all(
 // The table of pairs of tables that pass.
 pub fn pair_table(bytes: &[u8], ends: &[u32], schema: &[u32], instance: &[u32], pairs: &mut [u8])
     requires { ⌜ Pairable (tablesOf (stringTable (now bytes) (now ends)) (now schema) (now instance)) (now pairs) ⌝ }
-    ensures { λ _. ⌜ PairsRight (tablesOf (stringTable (now (bytes .entry)) (now (ends .entry))) (now (schema .entry)) (now (instance .entry))) (now (pairs .exit)) ⌝ }
+    ensures { λ _.
+        ⌜ PairsRight (tablesOf (stringTable (now (bytes .entry)) (now (ends .entry))) (now (schema .entry)) (now (instance .entry))) (now (pairs .exit)) ⌝ }
 {
     tables::zero_u8(pairs);
     let mut alone = [0u8; 262144];

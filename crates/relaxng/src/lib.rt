@@ -112,7 +112,8 @@ pub fn least_common_name(
 
 // Whether schema and instance keep their rules: codes 1 to 10.
 fn instance_verdict(bytes: &[u8], ends: &[u32], schema: &[u32], instance: &[u32]) -> Verdict
-    ensures { λ r. ⌜ InstanceRefusal (tablesOf (stringTable (now (bytes .entry)) (now (ends .entry))) (now (schema .entry)) (now (instance .entry))) Passes r ⌝ }
+    ensures { λ r.
+        ⌜ InstanceRefusal (tablesOf (stringTable (now (bytes .entry)) (now (ends .entry))) (now (schema .entry)) (now (instance .entry))) Passes r ⌝ }
 {
     let passed = schema_verdict(bytes, ends, schema);
     let Verdict::Passed = passed else {
@@ -159,7 +160,9 @@ pub fn match_list(
     instance: &[u32],
     list: &mut [u32],
 ) -> MatchAnswer
-    ensures { λ r. ⌜ ListsMatches (tablesOf (stringTable (now (bytes .entry)) (now (ends .entry))) (now (schema .entry)) (now (instance .entry))) (length (now (list .entry))) (now (list .exit)) r ⌝ }
+    ensures { λ r.
+        ⌜ ListsMatches (tablesOf (stringTable (now (bytes .entry)) (now (ends .entry))) (now (schema .entry)) (now (instance .entry)))
+        (length (now (list .entry))) (now (list .exit)) r ⌝ }
 {
     let passed = instance_verdict(bytes, ends, schema, instance);
     let Verdict::Passed = passed else {

@@ -19,7 +19,9 @@ fn write_pairs(valid: bool, list: &[u32], pairs: u32, out: &mut [u8]) -> u32
 
 // The text of the answer on the tables of a job.
 fn answer(bytes: &[u8], ends: &[u32], schema: &[u32], instance: &[u32], out: &mut [u8]) -> u32
-    ensures { λ n. ⌜ Answered (tablesOf (stringTable (now (bytes .entry)) (now (ends .entry))) (now (schema .entry)) (now (instance .entry))) (length (now (out .entry))) (now (out .exit)) n ⌝ }
+    ensures { λ n.
+        ⌜ Answered (tablesOf (stringTable (now (bytes .entry)) (now (ends .entry))) (now (schema .entry)) (now (instance .entry)))
+        (length (now (out .entry))) (now (out .exit)) n ⌝ }
 {
     let mut list = [0u32; 16384];
     let matches = relaxng::match_list(bytes, ends, schema, instance, &mut list);

@@ -139,7 +139,9 @@ fn class_referred(schema: &[u32], x: u32) -> u32
 // Whether what is wanted occurs in the pattern at a row.
 fn occurs(schema: &[u32], wanted: Wanted, p: u32, compared: &mut [u64]) -> bool
     requires { ⌜ SizeRight (now schema) × Compared (now schema) (now compared) ⌝ }
-    ensures { λ r. ⌜ Decides (Somewhere (now (schema .entry)) (Suits (now (schema .entry)) wanted) p) r × Compared (now (schema .entry)) (now (compared .exit)) ⌝ }
+    ensures { λ r.
+        ⌜ Decides (Somewhere (now (schema .entry)) (Suits (now (schema .entry)) wanted) p) r
+        × Compared (now (schema .entry)) (now (compared .exit)) ⌝ }
 {
     if suits(schema, wanted, p, compared) {
         return true;
@@ -166,7 +168,9 @@ fn occurs_child(
     compared: &mut [u64],
 ) -> bool
     requires { ⌜ SizeRight (now schema) × Compared (now schema) (now compared) ⌝ }
-    ensures { λ r. ⌜ Decides ((child < parent) × Somewhere (now (schema .entry)) (Suits (now (schema .entry)) wanted) child) r × Compared (now (schema .entry)) (now (compared .exit)) ⌝ }
+    ensures { λ r.
+        ⌜ Decides ((child < parent) × Somewhere (now (schema .entry)) (Suits (now (schema .entry)) wanted) child) r
+        × Compared (now (schema .entry)) (now (compared .exit)) ⌝ }
 {
     if child < parent {
         occurs(schema, wanted, child, compared)

@@ -69,7 +69,9 @@ fn passes(schema: &[u32], source: Source, marks: &[u32], below: &[u32], p: u32) 
 
 fn pass_below(schema: &[u32], source: Source, marks: &[u32], below: &mut [u32], p: u32)
     requires { ⌜ (p ≤ maxRows) × (length (now below) ≡ maxRows) ⌝ }
-    ensures { λ _. ⌜ Adds (ChildThat (now (schema .entry)) p (λ r. MarksChildren (now (schema .entry)) source (now (marks .entry)) (now (below .entry)) p)) (now (below .entry)) (now (below .exit)) ⌝ }
+    ensures { λ _.
+        ⌜ Adds (ChildThat (now (schema .entry)) p (λ r. MarksChildren (now (schema .entry)) source (now (marks .entry)) (now (below .entry)) p))
+        (now (below .entry)) (now (below .exit)) ⌝ }
 {
     let on = passes(schema, source, marks, below, p);
     schema::mark_children(schema, below, p, on, on);

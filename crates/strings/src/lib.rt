@@ -62,7 +62,8 @@ fn hash(text: &[u8]) -> usize
 // Whether a string before k has the text of string k. Only strings with its hash can; they are visited from the last
 // one on, whose number is one less than `last`.
 fn repeats(bytes: &[u8], ends: &[u32], prior: &[u32; 512], last: u32, k: usize) -> bool
-    requires { ⌜ (k < length (now ends)) × (k < 512) × LastOf (stringTable (now bytes) (now ends)) (hashAt (stringTable (now bytes) (now ends)) k) k last × Linked (stringTable (now bytes) (now ends)) (now prior) k ⌝ }
+    requires { ⌜ (k < length (now ends)) × (k < 512) × LastOf (stringTable (now bytes) (now ends)) (hashAt (stringTable (now bytes) (now ends)) k) k last
+        × Linked (stringTable (now bytes) (now ends)) (now prior) k ⌝ }
     ensures { λ r. ⌜ Decides (RepeatsText (stringTable (now (bytes .entry)) (now (ends .entry))) k) r ⌝ }
 {
     let own = text(bytes, ends, k);

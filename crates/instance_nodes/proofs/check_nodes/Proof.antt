@@ -1,5 +1,4 @@
 -- A wrong size comes first; with the right size only rows can be wrong.
-use mathlib.Core.Path.{refl}
 use borrow.Author.Needs.{needs}
 use Rattle.tables.proofs.Answers.{found-none, found-first, finds-same}
 use Rattle.instance.specs.NodeRule.{bad-node}
@@ -19,14 +18,11 @@ enum-told-2 c = search needs
 returns : tie.Need-returns
 returns c = found-first _ (c .before .before .check-size .ensures) (c .enum-told2 .given .1) first-bad-size
 
-slice-aggregate-first-wrong-node : tie.Need-slice-aggregate-first-wrong-node
-slice-aggregate-first-wrong-node c = search needs
-
 first-wrong-node-requires : tie.Need-first-wrong-node-requires
-first-wrong-node-requires c κs = (few-nodes (found-none _ (c .before .before .before .check-size .ensures) (c .before .enum-told .given .1)), refl)
+first-wrong-node-requires c κs = few-nodes (found-none _ (c .before .before .check-size .ensures) (c .enum-told .given .1))
 
 returns-2 : tie.Need-returns-2
-returns-2 c = let right = found-none _ (c .before .before .before .before .before .check-size .ensures) (c .before .before .before .enum-told .given .1) in finds-same (c .before .first-wrong-node .result) (λ r f. bad-node (f .0) (f .1)) (only-nodes right) (c .before .first-wrong-node .ensures)
+returns-2 c = let right = found-none _ (c .before .before .before .check-size .ensures) (c .before .enum-told .given .1) in finds-same (c .first-wrong-node .result) (λ r f. bad-node (f .0) (f .1)) (only-nodes right) (c .first-wrong-node .ensures)
 
 pub check-nodes-spec : {M : Type 1} → statement M
 check-nodes-spec =
@@ -36,6 +32,5 @@ check-nodes-spec =
     enum-told
     enum-told-2
     returns
-    slice-aggregate-first-wrong-node
     first-wrong-node-requires
     returns-2)

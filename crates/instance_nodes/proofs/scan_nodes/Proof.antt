@@ -12,8 +12,8 @@ use Rattle.instance.specs.Walk.{BadNode, Rooted, LastChildren}
 use Rattle.instance.specs.NodeRule.{maxNodes, bad-parent}
 use Rattle.instance.proofs.Order.{last-none}
 use Rattle.instance.proofs.Ancestors.{rooted-none, rooted-more}
-use Rattle.instance_nodes.proofs.first_wrong_node.Statement.{statement}
-use Rattle.instance_nodes.proofs.first_wrong_node.Tie as tie
+use Rattle.instance_nodes.proofs.scan_nodes.Statement.{statement}
+use Rattle.instance_nodes.proofs.scan_nodes.Tie as tie
 
 abbrev Inv-loop : tie.InvT-loop
 Inv-loop strings instance last₀ nodes r₀ last r = (r ≤ nodesOf instance) × Clear (BadNode strings instance) r × Rooted instance r × LastChildren instance last r
@@ -60,8 +60,8 @@ same-length-2 c = c .before .loop .inv .3 .size ∙ sym (ap length (c .before .b
 returns-2 : tie.Need-returns-2 Inv-loop μ-loop
 returns-2 c = finds-none _ (c .before .loop .inv .1) (λ k f. omega (arith, c .loop-test .left, f .0))
 
-pub first-wrong-node-spec : {M : Type 1} → statement M
-first-wrong-node-spec =
+pub scan-nodes-spec : {M : Type 1} → statement M
+scan-nodes-spec =
     tie.close
     (tie.spec
     Inv-loop
