@@ -6,7 +6,7 @@ a promise in docs/PROMISES.md or with one that holds under a premise, a call of 
 without an `ensures`, a long function or proof file, a kind of a schema row as a bare number, a definition or a contract
 that rests on a proof, a wrong answer that no promise names or that a promise names in vain, a crate without a line in
 the map or in the times, a hole or an axiom in a proof, a name of the library with another meaning, a name that two
-definitions have, a comment wider than 120 columns.
+definitions have, a comment wider than 120 columns, a contract wider than 160.
 """
 import glob
 import os
@@ -118,6 +118,8 @@ for path in sorted(glob.glob("crates/*/src/*.rt")):
             hold("→" not in promise, f"{place} is public and promises without a premise")
             hold(f"`{place}`" in promises, f"{place} in docs/PROMISES.md")
     hold(not wide_comments(text, "//"), f"{path} has comments of 120 columns: {wide_comments(text, '//')}")
+    wide = [n for n, line in enumerate(text.splitlines(), 1) if len(line) > 160 and not line.startswith("ghost use")]
+    hold(not wide, f"{path} has contracts of 160 columns: lines {wide}")
     code = re.sub(r"//.*", "", text)
     hold(".proofs." not in code, f"{path} cites no proof")
     if crate != "schema":
