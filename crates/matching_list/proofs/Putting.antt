@@ -1,18 +1,18 @@
 -- Pairs put one after the other.
-use mathlib.Core.Path.{_≡_, refl, sym, _∙_, ap, ap₂}
+use mathlib.Core.Path.{_≡_, refl, sym, _∙_, ap, ap₂, subst}
 use mathlib.Core.List.{List, [], _∷_, _++_}
 use mathlib.Core.Logic.{_≢_}
 use Prim.Native.Nat.{ℕ, zero, suc, _+_, _*_, _≤_, _<_}
 use native.Mathlib.Nat.{zero-add}
 use native.Mathlib.Omega.{arith}
 use borrow.Author.Tests.{eq-eqb, ne-eqb}
-use lib.ListN.{length, getD, set, length-append, length-set}
+use lib.ListN.{length, getD, set, length-append, length-set, length-replicate}
 use lib.Seq.{sets, set-out, length-sets}
 use Rattle.tables.proofs.Stores.{sets-append, sets-laid}
 use Rattle.tables.specs.Outputs.{zeros, laid}
 use Rattle.schema.specs.RowRule.{maxRows}
 use Rattle.matching_rules.specs.Listed.{pairWords}
-use Rattle.matching_list.specs.Listing.{pairIf, rowPairs, markedPairs, PutPairs, ListsPairs, whole, short}
+use Rattle.matching_list.specs.Listing.{pairIf, rowPairs, markedPairs, PutPairs, ListsPairs, whole, short, KeepsListed, stays, taken-back}
 use Rattle.matching_list.specs.declared.Listed.{Listed}
 use Rattle.matching_list.specs.declared.Listed.the-variants.{Pairs, TooShort}
 
@@ -95,6 +95,14 @@ module _ {table definitions : List ℕ} {rows room : ℕ} where
       let k = p .number in
       let l = words-length (markedPairs table definitions rows) in
       whole (omega arith) (ap Pairs (p .number ∙ zero-add _)) (p .holds ∙ sets-laid room (pairWords (markedPairs table definitions rows)) (omega arith))
+
+  -- what is put into zeros and kept where it fits
+  pub kept-list : {list mid end : List ℕ} {m : ℕ} {r : Listed} → list ≡ zeros room → PutPairs list 0 (markedPairs table definitions rows) mid m → KeepsListed mid m end r → ListsPairs table definitions rows room end r
+  kept-list {list} {mid} {m = m} z p k = go (put-length p ∙ ap length z ∙ length-replicate {A = ℕ} room 0) k
+    where
+      go : {end : List ℕ} {r : Listed} → length mid ≡ room → KeepsListed mid m end r → ListsPairs table definitions rows room end r
+      go l (stays h e f) = rw (e, f) (whole-list (omega arith) (subst (λ (o : List ℕ). PutPairs o 0 (markedPairs table definitions rows) mid m) z p))
+      go l (taken-back h e f) = rw e (short-list (omega arith) p (f ∙ ap zeros l))
 
   -- what an answer of the listing says
   pub listed : {list : List ℕ} {r : Listed} {n : ℕ} → ListsPairs table definitions rows room list r → r ≡ Pairs n

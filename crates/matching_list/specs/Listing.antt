@@ -41,3 +41,8 @@ pub data ListsPairs (table definitions : List ℕ) (rows room : ℕ) (list : Lis
   whole : length (markedPairs table definitions rows) * 2 ≤ room → r ≡ Pairs (length (markedPairs table definitions rows))
       → list ≡ laid room (pairWords (markedPairs table definitions rows)) → ListsPairs table definitions rows room list r
   short : room < length (markedPairs table definitions rows) * 2 → r ≡ TooShort → list ≡ zeros room → ListsPairs table definitions rows room list r
+
+-- n pairs were put into a list: they stay where they fit, and are taken back to zeros where they do not
+pub data KeepsListed (before : List ℕ) (n : ℕ) (after : List ℕ) (r : Listed) : Type 0 where
+  stays : n * 2 ≤ length before → r ≡ Pairs n → after ≡ before → KeepsListed before n after r
+  taken-back : length before < n * 2 → r ≡ TooShort → after ≡ zeros (length before) → KeepsListed before n after r

@@ -11,7 +11,7 @@ ghost use Rattle.schema.specs.RowRule.{maxRows};
 ghost use Rattle.instance.specs.NodeRule.{maxNodes};
 ghost use Rattle.matching_rules.specs.Job.{Valid};
 ghost use Rattle.matching_pairs.specs.Pairs.{TablesPass, Pairable};
-ghost use Rattle.matching_list.specs.Listing.{pairIf, rowPairs, markedPairs, PutPairs, ListsPairs};
+ghost use Rattle.matching_list.specs.Listing.{pairIf, rowPairs, markedPairs, PutPairs, ListsPairs, KeepsListed};
 ghost use Rattle.matching_list.specs.MatchList.{ListAnswer};
 ghost use Rattle.matching_list.specs.Start.{RootAsked, StartAsked, TellsRoot, TellsValid};
 
@@ -91,6 +91,17 @@ fn put_rows(table: &[u8], definitions: &[u32], rows: u32, list: &mut [u32]) -> u
     n
 }
 
+// The answer for a list that n pairs were put into: zeros throughout where it is too short for them.
+fn keep_listed(words: &mut [u32], n: u32) -> Listed
+    ensures { λ r. ⌜ KeepsListed (now (words .entry)) n (now (words .exit)) r ⌝ }
+{
+    if words.len() < n as usize * 2 {
+        tables::zero_u32(words);
+        return Listed::TooShort;
+    }
+    Listed::Pairs(n)
+}
+
 // The pairs of the first rows with the definitions that the table marks, in a lent list, and zeros after them; zeros
 // throughout where the list is too short for them.
 fn list_pairs(table: &[u8], definitions: &[u32], rows: u32, list: &mut [u32]) -> Listed
@@ -99,11 +110,7 @@ fn list_pairs(table: &[u8], definitions: &[u32], rows: u32, list: &mut [u32]) ->
 {
     tables::zero_u32(list);
     let n = put_rows(table, definitions, rows, list);
-    if list.len() < n as usize * 2 {
-        tables::zero_u32(list);
-        return Listed::TooShort;
-    }
-    Listed::Pairs(n)
+    keep_listed(list, n)
 }
 
 // Whether the root matches either operand of the choice at row p.
