@@ -1,7 +1,8 @@
-// The built-in datatypes: whitespace, and when `string` and `token` take two texts for equal.
+// The built-in datatypes: whitespace, the tokens between it, and when `string` and `token` take two texts for equal.
 ghost use mathlib.Core.Path.{_≡_};
 ghost use Rattle.datatypes.specs.Whitespace.{space, whitespace, stringEqual, tokenEqual};
 ghost use Rattle.datatypes.specs.Cursor.{Skips, Reads, isEnd};
+ghost use Rattle.datatypes.specs.Split.{TokenTo};
 ghost use Rattle.tables.specs.Answers.{Decides};
 
 // The next character of a normalized text with the position after it, or its end.
@@ -29,6 +30,20 @@ pub fn skip_space(s: &[u8], from: usize) -> usize
         i += 1;
     }
     i
+}
+
+// The first position from a given one on where a whitespace character stands: where a token that begins there ends.
+pub fn token_end(s: &[u8], from: usize) -> usize
+    ensures { λ r. ⌜ TokenTo (now (s .entry)) from r ⌝ }
+{
+    let mut to = from;
+    while to < s.len() {
+        if is_space(s[to]) {
+            return to;
+        }
+        to += 1;
+    }
+    to
 }
 
 // Whether a text is whitespace throughout; the empty text is.
