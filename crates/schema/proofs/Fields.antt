@@ -54,6 +54,7 @@ pub data PatternKind (k : ℕ) : Type 0 where
   is-text : k ≡ kind.text → PatternKind k
   is-data : k ≡ kind.«data» → PatternKind k
   is-value : k ≡ kind.value → PatternKind k
+  is-list : k ≡ kind.list → PatternKind k
   is-attribute : k ≡ kind.attribute → PatternKind k
   is-ref : k ≡ kind.ref → PatternKind k
   is-oneOrMore : k ≡ kind.oneOrMore → PatternKind k
@@ -67,16 +68,17 @@ pattern-kind k =
     either P (leb kind.empty k && leb k kind.text) (λ e p. low (and-both (leb kind.empty k) (leb k kind.text) e)) (λ e₁.
     either P (eqb k kind.«data») (λ e p. is-data (eqb-true _ _ e)) (λ e₂.
     either P (eqb k kind.value) (λ e p. is-value (eqb-true _ _ e)) (λ e₃.
-    either P (eqb k kind.attribute) (λ e p. is-attribute (eqb-true _ _ e)) (λ e₄.
-    either P (eqb k kind.ref) (λ e p. is-ref (eqb-true _ _ e)) (λ e₅.
-    either P (eqb k kind.oneOrMore) (λ e p. is-oneOrMore (eqb-true _ _ e)) (λ e₆.
-    either P (leb kind.choice k && leb k kind.interleave) (λ e p. high (and-both (leb kind.choice k) (leb k kind.interleave) e)) (λ e₇.
-    either P (eqb k kind.anyName) (λ e. never) (λ e₈.
-    either P (eqb k kind.nsName) (λ e. never) (λ e₉.
-    either P (eqb k kind.name) (λ e. never) (λ e₁₀.
-    either P (eqb k kind.nameChoice) (λ e. never) (λ e₁₁.
-    either P (eqb k kind.element) (λ e. never) (λ e₁₂.
-    either P (eqb k kind.start) (λ e. never) (λ e₁₃. never)))))))))))))
+    either P (eqb k kind.list) (λ e p. is-list (eqb-true _ _ e)) (λ e₄.
+    either P (eqb k kind.attribute) (λ e p. is-attribute (eqb-true _ _ e)) (λ e₅.
+    either P (eqb k kind.ref) (λ e p. is-ref (eqb-true _ _ e)) (λ e₆.
+    either P (eqb k kind.oneOrMore) (λ e p. is-oneOrMore (eqb-true _ _ e)) (λ e₇.
+    either P (leb kind.choice k && leb k kind.interleave) (λ e p. high (and-both (leb kind.choice k) (leb k kind.interleave) e)) (λ e₈.
+    either P (eqb k kind.anyName) (λ e. never) (λ e₉.
+    either P (eqb k kind.nsName) (λ e. never) (λ e₁₀.
+    either P (eqb k kind.name) (λ e. never) (λ e₁₁.
+    either P (eqb k kind.nameChoice) (λ e. never) (λ e₁₂.
+    either P (eqb k kind.element) (λ e. never) (λ e₁₃.
+    either P (eqb k kind.start) (λ e. never) (λ e₁₄. never))))))))))))))
   where
     P : Shape → Type 0
     P shape = isPattern (shape .sort) ≡ true → PatternKind k

@@ -3,6 +3,8 @@ pub mod DefinitionRows
 pub mod Falling
 pub mod Fields
 pub mod Marks
+pub mod OneParent
+pub mod Patterns
 pub mod RowLaws
 pub mod Shapes
 pub mod Sizes

@@ -18,9 +18,6 @@ pub outside : (a b k : ℕ) → (k < a) ⊎ (b < k) → (leb a k && leb k b) ≡
 outside a b k (inl l) = rw (lt-leb a k l)
 outside a b k (inr l) = rw (lt-leb k b l) (and-false (leb a k))
 
-pub past-oneOrMore : (k : ℕ) → kind.attribute ≤ k → k ≢ kind.attribute → k ≢ kind.ref → k ≢ kind.oneOrMore → kind.choice ≤ k
-past-oneOrMore k l p q r = omega arith
-
 -- choice, group and interleave
 pub shape-binary : (k : ℕ) → kind.choice ≤ k → k ≤ kind.interleave → shapeOf k ≡ shape Pattern APattern APattern
 unfolding shapeOf
@@ -29,6 +26,7 @@ shape-binary k l h =
       outside kind.empty kind.text k (inr (omega arith)),
       ne-eqb k kind.«data» (λ e. omega arith),
       ne-eqb k kind.value (λ e. omega arith),
+      ne-eqb k kind.list (λ e. omega arith),
       ne-eqb k kind.attribute (λ e. omega arith),
       ne-eqb k kind.ref (λ e. omega arith),
       ne-eqb k kind.oneOrMore (λ e. omega arith),
@@ -38,8 +36,19 @@ shape-binary k l h =
 -- none of the single kinds, as the rest of a match says it
 abbrev pub NotSingle : ℕ → Type 0
 NotSingle k =
-    ((((((((((Unit {0} × (k ≢ kind.«data»)) × (k ≢ kind.value)) × (k ≢ kind.attribute)) × (k ≢ kind.ref)) × (k ≢ kind.oneOrMore)) × (k ≢ kind.anyName)) × (k ≢ kind.nsName))
+    (((((((((((Unit {0} × (k ≢ kind.«data»)) × (k ≢ kind.value)) × (k ≢ kind.list)) × (k ≢ kind.attribute)) × (k ≢ kind.ref)) × (k ≢ kind.oneOrMore)) × (k ≢ kind.anyName)) × (k ≢ kind.nsName))
     × (k ≢ kind.name)) × (k ≢ kind.nameChoice)) × (k ≢ kind.element)) × (k ≢ kind.start)
+
+pub past-oneOrMore : (k : ℕ) → kind.text < k → NotSingle k → kind.choice ≤ k
+past-oneOrMore k l o =
+    let m = o .0 .0 .0 .0 .0 .0 in
+    let a = m .0 .0 .0 .0 .0 .1 in
+    let b = m .0 .0 .0 .0 .1 in
+    let c = m .0 .0 .0 .1 in
+    let d = m .0 .0 .1 in
+    let e = m .0 .1 in
+    let f = m .1 in
+    omega arith
 
 -- and in none of the ranges
 pub shape-bad : (k : ℕ) → (k < kind.empty) ⊎ (kind.text < k) → (k < kind.choice) ⊎ (kind.interleave < k) → NotSingle k → shapeOf k ≡ shape Bad Unused Unused
@@ -48,8 +57,9 @@ shape-bad k p q o =
     let o₁ = o .0 .0 .0 .0 .0 .0 in
     rw (
       outside kind.empty kind.text k p,
-      ne-eqb k kind.«data» (o₁ .0 .0 .0 .0 .1),
-      ne-eqb k kind.value (o₁ .0 .0 .0 .1),
+      ne-eqb k kind.«data» (o₁ .0 .0 .0 .0 .0 .1),
+      ne-eqb k kind.value (o₁ .0 .0 .0 .0 .1),
+      ne-eqb k kind.list (o₁ .0 .0 .0 .1),
       ne-eqb k kind.attribute (o₁ .0 .0 .1),
       ne-eqb k kind.ref (o₁ .0 .1),
       ne-eqb k kind.oneOrMore (o₁ .1),

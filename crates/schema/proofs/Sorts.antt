@@ -30,16 +30,17 @@ kind-of k =
     either P (leb kind.empty k && leb k kind.text) (λ e. of-pattern) (λ e₁.
     either P (eqb k kind.«data») (λ e. of-pattern) (λ e₂.
     either P (eqb k kind.value) (λ e. of-pattern) (λ e₃.
-    either P (eqb k kind.attribute) (λ e. of-pattern) (λ e₄.
-    either P (eqb k kind.ref) (λ e. of-pattern) (λ e₅.
-    either P (eqb k kind.oneOrMore) (λ e. of-pattern) (λ e₆.
-    either P (leb kind.choice k && leb k kind.interleave) (λ e. of-pattern) (λ e₇.
-    either P (eqb k kind.anyName) (λ e. of-class) (λ e₈.
-    either P (eqb k kind.nsName) (λ e. of-class) (λ e₉.
-    either P (eqb k kind.name) (λ e. of-class) (λ e₁₀.
-    either P (eqb k kind.nameChoice) (λ e. of-class) (λ e₁₁.
-    either P (eqb k kind.element) (λ e. of-element (eqb-true _ _ e)) (λ e₁₂.
-    either P (eqb k kind.start) (λ e. of-start (eqb-true _ _ e)) (λ e₁₃. of-bad)))))))))))))
+    either P (eqb k kind.list) (λ e. of-pattern) (λ e₄.
+    either P (eqb k kind.attribute) (λ e. of-pattern) (λ e₅.
+    either P (eqb k kind.ref) (λ e. of-pattern) (λ e₆.
+    either P (eqb k kind.oneOrMore) (λ e. of-pattern) (λ e₇.
+    either P (leb kind.choice k && leb k kind.interleave) (λ e. of-pattern) (λ e₈.
+    either P (eqb k kind.anyName) (λ e. of-class) (λ e₉.
+    either P (eqb k kind.nsName) (λ e. of-class) (λ e₁₀.
+    either P (eqb k kind.name) (λ e. of-class) (λ e₁₁.
+    either P (eqb k kind.nameChoice) (λ e. of-class) (λ e₁₂.
+    either P (eqb k kind.element) (λ e. of-element (eqb-true _ _ e)) (λ e₁₃.
+    either P (eqb k kind.start) (λ e. of-start (eqb-true _ _ e)) (λ e₁₄. of-bad))))))))))))))
   where
     P : Shape → Type 0
     P shape = KindOf k (shape .sort)

@@ -21,6 +21,9 @@ abbrev pub «data» : ℕ
 abbrev pub value : ℕ
 value = 5
 
+abbrev pub list : ℕ
+list = 6
+
 abbrev pub attribute : ℕ
 attribute = 7
 

@@ -33,6 +33,7 @@ shapeOf k =
     cond (leb kind.empty k && leb k kind.text) (shape Pattern Unused Unused)
     (cond (eqb k kind.«data») (shape Pattern Datatype PatternOrNone)
     (cond (eqb k kind.value) (shape Pattern Datatype StringNumber)
+    (cond (eqb k kind.list) (shape Pattern APattern Unused)
     (cond (eqb k kind.attribute) (shape Pattern AClass APattern)
     (cond (eqb k kind.ref) (shape Pattern Definition Unused)
     (cond (eqb k kind.oneOrMore) (shape Pattern APattern Unused)
@@ -43,7 +44,7 @@ shapeOf k =
     (cond (eqb k kind.nameChoice) (shape NameClass AClass AClass)
     (cond (eqb k kind.element) (shape Element AClass APattern)
     (cond (eqb k kind.start) (shape Start APattern Unused)
-    (shape Bad Unused Unused)))))))))))))
+    (shape Bad Unused Unused))))))))))))))
 
 abbrev pub isPattern : Sort → Bool
 isPattern Pattern = true

@@ -12,6 +12,7 @@ pub data Pattern : Type 0 where
   dataAll : (datatype : ℕ) → Pattern
   dataExcept : (datatype except : ℕ) → Pattern
   value : (datatype string : ℕ) → Pattern
+  list : (pattern : ℕ) → Pattern
   attribute : (nameClass pattern : ℕ) → Pattern
   ref : (definition : ℕ) → Pattern
   oneOrMore : (pattern : ℕ) → Pattern
@@ -34,12 +35,13 @@ patternBy k a b =
     (cond (eqb k kind.text) text
     (cond (eqb k kind.«data») (cond (eqb b kind.noRow) (dataAll a) (dataExcept a b))
     (cond (eqb k kind.value) (value a b)
+    (cond (eqb k kind.list) (list a)
     (cond (eqb k kind.attribute) (attribute a b)
     (cond (eqb k kind.ref) (ref a)
     (cond (eqb k kind.oneOrMore) (oneOrMore a)
     (cond (eqb k kind.choice) (choice a b)
     (cond (eqb k kind.group) (group a b)
-    (cond (eqb k kind.interleave) (interleave a b) noPattern))))))))))
+    (cond (eqb k kind.interleave) (interleave a b) noPattern)))))))))))
 
 unfoldable pub classBy : ℕ → ℕ → ℕ → NameClass
 classBy k a b =

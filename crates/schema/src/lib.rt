@@ -27,6 +27,8 @@ pub const DATA: u32 = 4;
 
 pub const VALUE: u32 = 5;
 
+pub const LIST: u32 = 6;
+
 pub const ATTRIBUTE: u32 = 7;
 
 pub const REF: u32 = 8;
@@ -130,6 +132,7 @@ pub fn shape_of(kind: u32) -> Shape
         EMPTY..=TEXT => made(Sort::Pattern, Field::Unused, Field::Unused),
         DATA => made(Sort::Pattern, Field::Datatype, Field::PatternOrNone),
         VALUE => made(Sort::Pattern, Field::Datatype, Field::StringNumber),
+        LIST => made(Sort::Pattern, Field::APattern, Field::Unused),
         ATTRIBUTE => made(Sort::Pattern, Field::AClass, Field::APattern),
         REF => made(Sort::Pattern, Field::Definition, Field::Unused),
         ONE_OR_MORE => made(Sort::Pattern, Field::APattern, Field::Unused),

@@ -54,6 +54,9 @@ made-requires-13 c κs = search needs
 made-requires-14 : tie.Need-made-requires-14
 made-requires-14 c κs = search needs
 
+made-requires-15 : tie.Need-made-requires-15
+made-requires-15 c κs = search needs
+
 returns : tie.Need-returns
 unfolding shapeOf
 returns c = c .made .ensures ∙ rw (c .before .match .keys1)
@@ -100,22 +103,23 @@ returns-11 c = c .made11 .ensures ∙ rw (c .before .match .keys11)
 
 returns-12 : tie.Need-returns-12
 unfolding shapeOf
-returns-12 c = c .made12 .ensures ∙ rw (inside kind.empty kind.text (c .before .before .before .before .args .kind) (omega arith) (omega arith))
+returns-12 c = c .made12 .ensures ∙ rw (c .before .match .keys12)
 
 returns-13 : tie.Need-returns-13
-returns-13 c =
-    let k = c .before .before .before .before .before .before .args .kind in
-    let m = c .before .before .before .before .before .match .rest .0 .0 .0 .0 .0 .0 in
-    let low : kind.choice ≤ k = past-oneOrMore k (c .before .before .if3 .left) (m .0 .0 .1) (m .0 .1) (m .1) in
-    c .made13 .ensures ∙ sym (shape-binary k low (le-of-suc-le-suc (c .before .if4 .taken)))
+unfolding shapeOf
+returns-13 c = c .made13 .ensures ∙ rw (inside kind.empty kind.text (c .before .before .before .before .args .kind) (omega arith) (omega arith))
 
 returns-14 : tie.Need-returns-14
 returns-14 c =
+    let k = c .before .before .before .before .before .args .kind in
+    let low : kind.choice ≤ k = past-oneOrMore k (c .before .before .if2 .left) (c .before .before .before .before .match .rest) in
+    c .made14 .ensures ∙ sym (shape-binary k low (le-of-suc-le-suc (c .before .if3 .taken)))
+
+returns-15 : tie.Need-returns-15
+returns-15 c =
     let k = c .before .before .before .args .kind in
-    let bad : (k < kind.empty) ⊎ (kind.text < k) → (k < kind.choice) ⊎ (kind.interleave < k) → c .made14 .result ≡ shapeOf k = λ p q. c .made14 .ensures ∙ sym (shape-bad k p q (c .before .before .match .rest)) in
-    ⊎-elim (λ w. bad (inl (w .taken)) (inl (le-trans (w .taken) (lit≤ tt))))
-    (⊎-elim (λ w. bad (inr (w .1 .left)) (inl (le-trans (w .2 .taken) (lit≤ tt)))) (λ w. bad (inr (w .1 .left)) (inr (w .3 .left))))
-    (c .before .if1 .came)
+    let bad : (k < kind.empty) ⊎ (kind.text < k) → (k < kind.choice) ⊎ (kind.interleave < k) → c .made15 .result ≡ shapeOf k = λ p q. c .made15 .ensures ∙ sym (shape-bad k p q (c .before .before .match .rest)) in
+    ⊎-elim (λ w. bad (inl (w .taken)) (inl (le-trans (w .taken) (lit≤ tt)))) (λ w. bad (inr (w .1 .left)) (inr (w .2 .left))) (c .before .if1 .came)
 
 pub shape-of-spec : {M : Type 1} → statement M
 shape-of-spec =
@@ -135,6 +139,7 @@ shape-of-spec =
     made-requires-12
     made-requires-13
     made-requires-14
+    made-requires-15
     returns
     returns-2
     returns-3
@@ -148,4 +153,5 @@ shape-of-spec =
     returns-11
     returns-12
     returns-13
-    returns-14)
+    returns-14
+    returns-15)
