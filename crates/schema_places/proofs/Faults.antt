@@ -17,9 +17,9 @@ use Rattle.schema_places.specs.Marks.{MarksExactly, Under}
 use Rattle.schema_places.specs.Sources.{HasKind, SharingIn}
 use Rattle.schema_places.specs.Prohibited.{RepeatedSharing, MarkedKind, Prohibited, earliest}
 use Rattle.schema_places.specs.declared.Prohibition.{Prohibition}
-use Rattle.schema_places.specs.declared.Prohibition.the-variants.{NotInAnyName, NotInNsName, NotInAttribute, NotInRepeated, NotInExcept, NotInStart}
+use Rattle.schema_places.specs.declared.Prohibition.the-variants.{NotInAnyName, NotInNsName, NotInAttribute, NotInRepeated, NotInList, NotInExcept, NotInStart}
 use Rattle.schema_places.specs.Names.{NameFault, anyName-in-anyName, anyName-in-nsName, nsName-in-nsName}
-use Rattle.schema_places.specs.Paths.{PathFault, in-attribute, in-repeated-sharing, in-except, in-start}
+use Rattle.schema_places.specs.Paths.{PathFault, in-attribute, in-repeated-sharing, in-list, in-except, in-start}
 use Rattle.schema_places.proofs.Marks.{marks-same}
 
 abbrev pub Either : (ℕ → Type 0) → (ℕ → Type 0) → ℕ → Type 0
@@ -72,12 +72,13 @@ module _ {s : List ℕ} where
   fault-name r (anyName-in-nsName p e k b) = inr (record { under = record { row = p; source = k; below = b }; prohibited = rw e })
   fault-name r (nsName-in-nsName p e k b) = inr (record { under = record { row = p; source = k; below = b }; prohibited = rw e })
 
--- code 5, by its four paths
+-- code 5, by its five paths
 abbrev pub PathProhibited : List ℕ → ℕ → Type 0
 PathProhibited s =
     Either
     (Either (Prohibited s (HasKind s kind.attribute) NotInAttribute) (Prohibited s (RepeatedSharing s) NotInRepeated))
-    (Either (Prohibited s (HasKind s kind.«data») NotInExcept) (Prohibited s (HasKind s kind.start) NotInStart))
+    (Either (Prohibited s (HasKind s kind.list) NotInList)
+    (Either (Prohibited s (HasKind s kind.«data») NotInExcept) (Prohibited s (HasKind s kind.start) NotInStart)))
 
 module _ {s : List ℕ} where
   pub path-fault : (r : ℕ) → PathProhibited s r → PathFault s r
@@ -86,12 +87,14 @@ module _ {s : List ℕ} where
       let u = f .under in
       let q = u .source .repeated in
       in-repeated-sharing (u .row) (q .row) (eqb-true _ _ (f .prohibited)) (u .source .sharing) (u .below) (q .source) (q .below)
-  path-fault r (inr (inl f)) = let u = f .under in in-except (u .row) (f .prohibited) (u .source) (u .below)
-  path-fault r (inr (inr f)) = let u = f .under in in-start (u .row) (f .prohibited) (u .source) (u .below)
+  path-fault r (inr (inl f)) = let u = f .under in in-list (u .row) (f .prohibited) (u .source) (u .below)
+  path-fault r (inr (inr (inl f))) = let u = f .under in in-except (u .row) (f .prohibited) (u .source) (u .below)
+  path-fault r (inr (inr (inr f))) = let u = f .under in in-start (u .row) (f .prohibited) (u .source) (u .below)
 
   pub fault-path : (r : ℕ) → PathFault s r → PathProhibited s r
   fault-path r (in-attribute p n k b) = inl (inl (record { under = record { row = p; source = k; below = b }; prohibited = n }))
   fault-path r (in-repeated-sharing p q e n b k d) =
       inl (inr (record { under = record { row = p; source = record { sharing = n; repeated = record { row = q; source = k; below = d } }; below = b }; prohibited = eq-eqb _ _ e }))
-  fault-path r (in-except p n k b) = inr (inl (record { under = record { row = p; source = k; below = b }; prohibited = n }))
-  fault-path r (in-start p n k b) = inr (inr (record { under = record { row = p; source = k; below = b }; prohibited = n }))
+  fault-path r (in-list p n k b) = inr (inl (record { under = record { row = p; source = k; below = b }; prohibited = n }))
+  fault-path r (in-except p n k b) = inr (inr (inl (record { under = record { row = p; source = k; below = b }; prohibited = n })))
+  fault-path r (in-start p n k b) = inr (inr (inr (record { under = record { row = p; source = k; below = b }; prohibited = n })))

@@ -12,10 +12,11 @@ use Rattle.schema.specs.Relations.{Child}
 abbrev pub holdsWhole : ℕ → Bool
 holdsWhole k = eqb k kind.element || eqb k kind.start
 
--- empty may be the child r of p: whole, an attribute's pattern, a whole except, or field a of a choice
+-- empty may be the child r of p: whole, an attribute's or a list's pattern, a whole except, or field a of a choice
 abbrev pub emptyFits : List ℕ → ℕ → ℕ → Bool
 emptyFits s p r =
-    holdsWhole (kindOf s p) || eqb (kindOf s p) kind.attribute || eqb (kindOf s p) kind.«data» || eqb (kindOf s p) kind.choice && eqb (aOf s p) r
+    holdsWhole (kindOf s p) || eqb (kindOf s p) kind.attribute || eqb (kindOf s p) kind.list || eqb (kindOf s p) kind.«data»
+    || eqb (kindOf s p) kind.choice && eqb (aOf s p) r
 
 -- code 3 at row r
 pub data PlaceFault (s : List ℕ) (r : ℕ) : Type 0 where

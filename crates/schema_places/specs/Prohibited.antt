@@ -11,9 +11,9 @@ use Rattle.schema.specs.Rows.{kindOf}
 use Rattle.schema.specs.Marks.{Marked}
 use Rattle.schema_places.specs.Marks.{Under}
 use Rattle.schema_places.specs.Sources.{HasKind}
-use Rattle.schema_places.specs.Paths.{sharingKind, notInAttribute, notInExcept, notInStart}
+use Rattle.schema_places.specs.Paths.{sharingKind, notInAttribute, notInList, notInExcept, notInStart}
 use Rattle.schema_places.specs.declared.Prohibition.{Prohibition}
-use Rattle.schema_places.specs.declared.Prohibition.the-variants.{AnyKind, NotInAnyName, NotInNsName, NotInAttribute, NotInRepeated, NotInExcept, NotInStart}
+use Rattle.schema_places.specs.declared.Prohibition.the-variants.{AnyKind, NotInAnyName, NotInNsName, NotInAttribute, NotInRepeated, NotInList, NotInExcept, NotInStart}
 
 abbrev pub isProhibited : Prohibition → ℕ → Bool
 isProhibited AnyKind k = true
@@ -21,6 +21,7 @@ isProhibited NotInAnyName k = eqb k kind.anyName
 isProhibited NotInNsName k = eqb k kind.anyName || eqb k kind.nsName
 isProhibited NotInAttribute k = notInAttribute k
 isProhibited NotInRepeated k = eqb k kind.attribute
+isProhibited NotInList k = notInList k
 isProhibited NotInExcept k = notInExcept k
 isProhibited NotInStart k = notInStart k
 

@@ -6,7 +6,7 @@ ghost use mathlib.Core.Path.{_≡_};
 ghost use Prim.Native.Nat.{_≤_};
 ghost use lib.ListN.{length};
 ghost use Rattle.tables.specs.Answers.{Decides, Finds};
-ghost use Rattle.schema.specs.Kinds.{oneOrMore};
+ghost use Rattle.schema.specs.Kinds.{oneOrMore, list};
 ghost use Rattle.schema.specs.Marks.{Adds};
 ghost use Rattle.schema.specs.RowRule.{maxRows, SizedFault};
 ghost use Rattle.schema.specs.Rows.{rowsOf};
@@ -15,7 +15,7 @@ ghost use Rattle.schema_places.specs.Sources.{HasKind, IsSource, MarksCh
 ghost use Rattle.schema_places.specs.Places.{holdsWhole, emptyFits, PlaceFault};
 ghost use Rattle.schema_places.specs.Misplaced.{Misplaced};
 ghost use Rattle.schema_places.specs.Names.{NameFault};
-ghost use Rattle.schema_places.specs.Paths.{sharingKind, notInAttribute, notInExcept, notInStart, PathFault};
+ghost use Rattle.schema_places.specs.Paths.{sharingKind, notInAttribute, notInList, notInExcept, notInStart, PathFault};
 ghost use Rattle.schema_places.specs.Prohibited.{isProhibited, MarkedKind, Prohibited, RepeatedSharing, earliest};
 
 // Which rows mark those below them: the rows of a kind, or the groups and interleaves that a table marks.
@@ -100,14 +100,23 @@ pub fn mark_repeated(schema: &[u32], below: &mut [u32])
     mark_below(schema, Source::OfKind(schema::ONE_OR_MORE), schema, below);
 }
 
+// Marks the rows below a list.
+pub fn mark_listed(schema: &[u32], below: &mut [u32])
+    requires { ⌜ MarkRoom (now schema) (now below) ⌝ }
+    ensures { λ _. ⌜ MarksExactly (Under (now (schema .entry)) (HasKind (now (schema .entry)) list)) (now (below .exit)) ⌝ }
+{
+    mark_below(schema, Source::OfKind(schema::LIST), schema, below);
+}
+
 // The kinds that are prohibited at a marked row: any kind, or what may not stand below an anyName, an nsName,
-// an attribute, a group or interleave in a oneOrMore, a data, the start.
+// an attribute, a group or interleave in a oneOrMore, a list, a data, the start.
 enum Prohibition {
     AnyKind,
     NotInAnyName,
     NotInNsName,
     NotInAttribute,
     NotInRepeated,
+    NotInList,
     NotInExcept,
     NotInStart,
 }
@@ -118,12 +127,23 @@ fn not_in_attribute(kind: u32) -> bool
     (kind == schema::REF) | (kind == schema::ATTRIBUTE)
 }
 
+fn not_in_list(kind: u32) -> bool
+    ensures { λ r. ⌜ r ≡ notInList kind ⌝ }
+{
+    (kind == schema::LIST)
+        | (kind == schema::REF)
+        | (kind == schema::ATTRIBUTE)
+        | (kind == schema::TEXT)
+        | (kind == schema::INTERLEAVE)
+}
+
 fn not_in_except(kind: u32) -> bool
     ensures { λ r. ⌜ r ≡ notInExcept kind ⌝ }
 {
     (kind == schema::ATTRIBUTE)
         | (kind == schema::REF)
         | (kind == schema::TEXT)
+        | (kind == schema::LIST)
         | is_sharing(kind)
         | (kind == schema::ONE_OR_MORE)
         | (kind == schema::EMPTY)
@@ -135,6 +155,7 @@ fn not_in_start(kind: u32) -> bool
     (kind == schema::ATTRIBUTE)
         | (kind == schema::DATA)
         | (kind == schema::VALUE)
+        | (kind == schema::LIST)
         | (kind == schema::TEXT)
         | is_sharing(kind)
         | (kind == schema::ONE_OR_MORE)
@@ -150,6 +171,7 @@ fn is_prohibited(prohibition: Prohibition, kind: u32) -> bool
         Prohibition::NotInNsName => (kind == schema::ANY_NAME) | (kind == schema::NS_NAME),
         Prohibition::NotInAttribute => not_in_attribute(kind),
         Prohibition::NotInRepeated => kind == schema::ATTRIBUTE,
+        Prohibition::NotInList => not_in_list(kind),
         Prohibition::NotInExcept => not_in_except(kind),
         Prohibition::NotInStart => not_in_start(kind),
     }
@@ -185,6 +207,7 @@ fn empty_fits(schema: &[u32], p: u32, row: u32) -> bool
     let first = schema::field_a(schema, p);
     holds_whole(kind)
         | (kind == schema::ATTRIBUTE)
+        | (kind == schema::LIST)
         | (kind == schema::DATA)
         | ((kind == schema::CHOICE) & (first == row))
 }
@@ -294,9 +317,13 @@ fn first_prohibited(schema: &[u32]) -> Checked
 {
     let attribute = first_below(schema, schema::ATTRIBUTE, Prohibition::NotInAttribute);
     let repeated = first_repeated(schema);
+    let list = first_below(schema, schema::LIST, Prohibition::NotInList);
     let except = first_below(schema, schema::DATA, Prohibition::NotInExcept);
     let start = first_below(schema, schema::START, Prohibition::NotInStart);
-    earlier(earlier(attribute, repeated), earlier(except, start))
+    earlier(
+        earlier(attribute, repeated),
+        earlier(list, earlier(except, start)),
+    )
 }
 
 // The first anyName or nsName in an except that has no place for it.

@@ -1,6 +1,7 @@
 -- What a schema that passes has, as matching needs it.
-use mathlib.Core.Path.{_≡_, refl}
-use mathlib.Core.Bool.{Bool, true, false}
+use mathlib.Core.Path.{_≡_, refl, sym, _∙_, ap}
+use mathlib.Core.Bool.{Bool, true, false, false≢true}
+use mathlib.Core.Logic.{_≢_, _⊎_, inl, inr}
 use mathlib.Core.List.{List}
 use Prim.Native.Nat.{ℕ}
 use Rattle.tables.specs.Refusals.{goes-on}
@@ -9,10 +10,12 @@ use Rattle.schema.specs.Kinds as kind
 use Rattle.schema.specs.Rows.{kindOf, childA, childB}
 use Rattle.schema.specs.Relations.{Below, Occurs}
 use Rattle.schema_classes.specs.Membership.{inClass}
-use Rattle.schema_places.specs.Paths.{sharingKind, notInExcept, in-repeated-sharing, in-except}
+use Rattle.schema_places.specs.Places.{holdsWhole, notAllowed-inside}
+use Rattle.schema_places.specs.Paths.{sharingKind, notInList, notInExcept, in-repeated-sharing, in-list, in-except}
 use Rattle.schema_occurrences.specs.Attributes.{duplicate}
 use Rattle.schema_occurrences.specs.Interleaves.{classReferred, same-element, text-twice}
 use Rattle.schema_restrictions.specs.Schema.{SchemaVerdict, SchemaPasses}
+use Rattle.schema_restrictions.proofs.Outside.{below-parent, whole-outside}
 
 pub passes : {strings : ℕ} {s : List ℕ} → SchemaVerdict strings s Passed → SchemaPasses strings s
 passes (goes-on rows (goes-on places (goes-on names (goes-on paths (goes-on sequences (goes-on attributes (goes-on interleaves e))))))) = record {
@@ -41,10 +44,23 @@ module _ {strings : ℕ} {s : List ℕ} (p : SchemaPasses strings s) where
   pub repeats-flat : (r q m : ℕ) → kindOf s m ≡ kind.oneOrMore → Below s q m → sharingKind (kindOf s q) ≡ true → Below s r q → kindOf s r ≡ kind.attribute → ⊥
   repeats-flat r q m e b f c k = p .paths r (in-repeated-sharing q m k f c e b)
 
-  -- below a data's except stand only data, value and choice, and notAllowed nowhere inside a pattern (10.2.5)
-  pub except-plain : (r q : ℕ) → kindOf s q ≡ kind.«data» → Below s r q → notInExcept (kindOf s r) ≡ false
-  except-plain r q e b = go (notInExcept (kindOf s r)) refl
+  -- what may not stand below a list (10.2.4), or below a data's except (10.2.5), does not
+  not-there : {A : Type 0} (b : Bool) → ¬ A → (b ≡ true → A) → b ≡ false
+  not-there true n f = absurd (n (f refl))
+  not-there false n f = refl
+
+  pub list-flat : (r q : ℕ) → kindOf s q ≡ kind.list → Below s r q → notInList (kindOf s r) ≡ false
+  list-flat r q e b = not-there (notInList (kindOf s r)) (p .paths r) (λ f. in-list q f e b)
+
+  -- nor does notAllowed (clause 8)
+  pub list-no-notAllowed : (r q : ℕ) → kindOf s q ≡ kind.list → Below s r q → kindOf s r ≢ kind.notAllowed
+  list-no-notAllowed r q e b f =
+      let u = below-parent b in
+      p .places r (notAllowed-inside (u .0) f (u .1) (not-there (holdsWhole (kindOf s (u .0))) (λ z. z) (whole-outside-of (u .2))))
     where
-      go : (t : Bool) → notInExcept (kindOf s r) ≡ t → t ≡ false
-      go true f = absurd (p .paths r (in-except q f e b))
-      go false f = refl
+      whole-outside-of : {x : ℕ} → (x ≡ q) ⊎ Below s x q → holdsWhole (kindOf s x) ≡ true → ⊥
+      whole-outside-of (inl i) h = false≢true (sym (ap holdsWhole (ap (kindOf s) i ∙ e)) ∙ h)
+      whole-outside-of (inr d) h = whole-outside h d
+
+  pub except-plain : (r q : ℕ) → kindOf s q ≡ kind.«data» → Below s r q → notInExcept (kindOf s r) ≡ false
+  except-plain r q e b = not-there (notInExcept (kindOf s r)) (p .paths r) (λ f. in-except q f e b)

@@ -12,7 +12,7 @@ use Rattle.tables.proofs.Booleans.{and-both, or-either, either}
 use Rattle.schema.specs.Kinds as kind
 use Rattle.schema.specs.Rows.{kindOf, bOf, childA, childB}
 use Rattle.schema_places.specs.Paths.{sharingKind}
-use Rattle.schema_sequences.specs.Content.{groupable, HasType, value-type, data-type-1, data-type-2, text-type, ref-type, empty-type, attribute-type, sharing-type, oneOrMore-type, choice-type, SequenceFault, sharing-not-groupable, repeat-not-groupable}
+use Rattle.schema_sequences.specs.Content.{groupable, HasType, value-type, data-type-1, data-type-2, list-type, text-type, ref-type, empty-type, attribute-type, sharing-type, oneOrMore-type, choice-type, Clash, sharing-not-groupable, repeat-not-groupable}
 use Rattle.schema_sequences.specs.TypeTable.{noType, typed, fits, clashes, typeBy, clashBy, TypeIs}
 
 three : (x y z : Bool) → (x && y && z) ≡ true → (x ≡ true) × (y ≡ true) × (z ≡ true)
@@ -23,6 +23,7 @@ pub type-low : {s : List ℕ} {r c : ℕ} → HasType s r c → c < noType
 type-low (value-type e) = omega arith
 type-low (data-type-1 e f) = omega arith
 type-low (data-type-2 e t) = omega arith
+type-low (list-type e) = omega arith
 type-low (text-type e) = omega arith
 type-low (ref-type e) = omega arith
 type-low (empty-type e) = omega arith
@@ -59,7 +60,7 @@ module _ (s : List ℕ) (r c d : ℕ) (first : TypeIs s (childA s r) c) (second 
       let k = kindOf s r in
       either Given (eqb k kind.empty) (λ e t. empty-type (eqb-true _ _ e)) (λ e₁.
       either Given (eqb k kind.text || eqb k kind.ref) (λ e t. ⊎-elim (λ x. text-type (eqb-true _ _ x)) (λ x. ref-type (eqb-true _ _ x)) (or-either (eqb k kind.text) (eqb k kind.ref) e)) (λ e₂.
-      either Given (eqb k kind.value) (λ e t. value-type (eqb-true _ _ e)) (λ e₃.
+      either Given (eqb k kind.value || eqb k kind.list) (λ e t. ⊎-elim (λ x. value-type (eqb-true _ _ x)) (λ x. list-type (eqb-true _ _ x)) (or-either (eqb k kind.value) (eqb k kind.list) e)) (λ e₃.
       either Given (eqb k kind.«data») (λ e. either Given (eqb (bOf s r) kind.noRow || typed d)
       (λ f t. ⊎-elim (λ x. data-type-1 (eqb-true _ _ e) (eqb-true _ _ x)) (λ x. data-type-2 (eqb-true _ _ e) (second .has x)) (or-either (eqb (bOf s r) kind.noRow) (typed d) f)) (λ f. no-type)) (λ e₄.
       either Given (eqb k kind.attribute) (λ e. either Given (typed d) (λ f t. attribute-type (eqb-true _ _ e) (second .has f)) (λ f. no-type)) (λ e₅.
@@ -82,6 +83,7 @@ module _ (s : List ℕ) (r c d : ℕ) (first : TypeIs s (childA s r) c) (second 
   only t (value-type e) = rw e
   only t (data-type-1 e f) = rw (e, eq-eqb _ _ f)
   only t (data-type-2 e h) = rw (e, is-typed second h, or-true (eqb (bOf s r) kind.noRow))
+  only t (list-type e) = rw e
   only t (text-type e) = rw e
   only t (ref-type e) = rw e
   only t (empty-type e) = rw e
@@ -94,31 +96,31 @@ module _ (s : List ℕ) (r c d : ℕ) (first : TypeIs s (childA s r) c) (second 
   type-is = record { has = has; only = only }
 
   -- the answer to whether the row is at fault
-  clash-fault : clashBy (kindOf s r) c d ≡ true → SequenceFault s r
+  clash-fault : clashBy (kindOf s r) c d ≡ true → Clash s r
   unfolding clashBy
   clash-fault = go (eqb (kindOf s r) kind.oneOrMore) refl (sharingKind (kindOf s r)) refl
     where
-      go : (m : Bool) → eqb (kindOf s r) kind.oneOrMore ≡ m → (p : Bool) → sharingKind (kindOf s r) ≡ p → cond m (clashes c c) (cond p (clashes c d) false) ≡ true → SequenceFault s r
+      go : (m : Bool) → eqb (kindOf s r) kind.oneOrMore ≡ m → (p : Bool) → sharingKind (kindOf s r) ≡ p → cond m (clashes c c) (cond p (clashes c d) false) ≡ true → Clash s r
       go true e p f h = let g = three (typed c) (typed c) (not (groupable c c)) h in repeat-not-groupable c (eqb-true _ _ e) (first .has (g .0)) (not-true _ (g .2))
       go false e true f h = let g = three (typed c) (typed d) (not (groupable c d)) h in sharing-not-groupable c d f (first .has (g .0)) (second .has (g .1)) (not-true _ (g .2))
       go false e false f h = absurd (false≢true h)
 
-  fault-clash : SequenceFault s r → clashBy (kindOf s r) c d ≡ true
+  fault-clash : Clash s r → clashBy (kindOf s r) c d ≡ true
   unfolding clashBy
   fault-clash (sharing-not-groupable x y e t u g) = sharing-clash (kindOf s r) c d e ∙ rw (is-typed first t, is-typed second u, rw (first .only x t, second .only y u) at g)
   fault-clash (repeat-not-groupable x e t g) = rw (e, is-typed first t, rw (first .only x t) at g)
 
-  pub clash-decides : Decides (SequenceFault s r) (clashBy (kindOf s r) c d)
+  pub clash-decides : Decides (Clash s r) (clashBy (kindOf s r) c d)
   clash-decides = go (clashBy (kindOf s r) c d) refl
     where
-      go : (b : Bool) → clashBy (kindOf s r) c d ≡ b → Decides (SequenceFault s r) b
+      go : (b : Bool) → clashBy (kindOf s r) c d ≡ b → Decides (Clash s r) b
       go true e = clash-fault e
       go false e = λ f. true≢false (sym (fault-clash f) ∙ e)
 
 -- what the code finds of a row, from what it has read
 pub row-judged :
     (s : List ℕ) (r : ℕ) {k b x y c d t : ℕ} {clash : Bool} → k ≡ kindOf s r → b ≡ bOf s r → x ≡ childA s r → y ≡ childB s r → TypeIs s x c → TypeIs s y d
-    → clash ≡ clashBy k c d → t ≡ typeBy k b c d → Decides (SequenceFault s r) clash × TypeIs s r t
+    → clash ≡ clashBy k c d → t ≡ typeBy k b c d → Decides (Clash s r) clash × TypeIs s r t
 row-judged s r {c = c} {d} ek eb ex ey first second ec et =
     let one : TypeIs s (childA s r) c = rw ex at first in
     let two : TypeIs s (childB s r) d = rw ey at second in

@@ -6,7 +6,9 @@ use mathlib.Core.List.{List}
 use lib.Dec.{eqb}
 use Rattle.schema.specs.Kinds as kind
 use Rattle.schema.specs.Rows.{kindOf, bOf, childA, childB}
+use Rattle.schema_places.specs.Marks.{Under}
 use Rattle.schema_places.specs.Paths.{sharingKind}
+use Rattle.schema_places.specs.Sources.{HasKind}
 
 -- the content types in their order
 abbrev pub emptyType : ℕ
@@ -27,6 +29,7 @@ pub data HasType (s : List ℕ) : ℕ → ℕ → Type 0 where
   value-type : {r : ℕ} → kindOf s r ≡ kind.value → HasType s r simpleType
   data-type-1 : {r : ℕ} → kindOf s r ≡ kind.«data» → bOf s r ≡ kind.noRow → HasType s r simpleType
   data-type-2 : {r c : ℕ} → kindOf s r ≡ kind.«data» → HasType s (childB s r) c → HasType s r simpleType
+  list-type : {r : ℕ} → kindOf s r ≡ kind.list → HasType s r simpleType
   text-type : {r : ℕ} → kindOf s r ≡ kind.text → HasType s r complexType
   ref-type : {r : ℕ} → kindOf s r ≡ kind.ref → HasType s r complexType
   empty-type : {r : ℕ} → kindOf s r ≡ kind.empty → HasType s r emptyType
@@ -35,9 +38,19 @@ pub data HasType (s : List ℕ) : ℕ → ℕ → Type 0 where
   oneOrMore-type : {r c : ℕ} → kindOf s r ≡ kind.oneOrMore → HasType s (childA s r) c → groupable c c ≡ true → HasType s r c
   choice-type : {r c d : ℕ} → kindOf s r ≡ kind.choice → HasType s (childA s r) c → HasType s (childB s r) d → HasType s r (max c d)
 
--- Code 6 at row r, whose own operands have types that do not go together. The rule (element) of 10.3, taken literally,
--- would also make an element of notAllowed incorrect, since notAllowed has no content type; document 01's restriction 3
--- lets notAllowed be the whole pattern of an element, so that it is no fault (docs/DECISIONS.md).
-pub data SequenceFault (s : List ℕ) (r : ℕ) : Type 0 where
-  sharing-not-groupable : (c d : ℕ) → sharingKind (kindOf s r) ≡ true → HasType s (childA s r) c → HasType s (childB s r) d → groupable c d ≡ false → SequenceFault s r
-  repeat-not-groupable : (c : ℕ) → kindOf s r ≡ kind.oneOrMore → HasType s (childA s r) c → groupable c c ≡ false → SequenceFault s r
+-- the operands of row r have types that do not go together
+pub data Clash (s : List ℕ) (r : ℕ) : Type 0 where
+  sharing-not-groupable : (c d : ℕ) → sharingKind (kindOf s r) ≡ true → HasType s (childA s r) c → HasType s (childB s r) d → groupable c d ≡ false → Clash s r
+  repeat-not-groupable : (c : ℕ) → kindOf s r ≡ kind.oneOrMore → HasType s (childA s r) c → groupable c c ≡ false → Clash s r
+
+-- row r is below a list
+abbrev pub InList : List ℕ → ℕ → Type 0
+InList s r = Under s (HasKind s kind.list) r
+
+-- Code 6 at row r: its own operands clash, and it is below no list, where 10.3 does not apply. The rule (element) of
+-- 10.3, taken literally, would also make an element of notAllowed incorrect, since notAllowed has no content type;
+-- document 01's restriction 3 lets notAllowed be the whole pattern of an element, so that it is no fault
+-- (docs/DECISIONS.md).
+pub record SequenceFault (s : List ℕ) (r : ℕ) : Type 0 where
+  pub clash : Clash s r
+  pub outside : ¬ InList s r

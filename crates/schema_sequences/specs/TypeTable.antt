@@ -29,7 +29,7 @@ unfoldable pub typeBy : ℕ → ℕ → ℕ → ℕ → ℕ
 typeBy k b c d =
     cond (eqb k kind.empty) emptyType
     (cond (eqb k kind.text || eqb k kind.ref) complexType
-    (cond (eqb k kind.value) simpleType
+    (cond (eqb k kind.value || eqb k kind.list) simpleType
     (cond (eqb k kind.«data») (cond (eqb b kind.noRow || typed d) simpleType noType)
     (cond (eqb k kind.attribute) (cond (typed d) emptyType noType)
     (cond (eqb k kind.oneOrMore) (cond (fits c c) c noType)

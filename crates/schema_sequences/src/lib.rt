@@ -10,7 +10,8 @@ ghost use Rattle.tables.specs.Outputs.{zeros};
 ghost use Rattle.schema.specs.Kinds.{noRow};
 ghost use Rattle.schema.specs.Rows.{rowsOf};
 ghost use Rattle.schema.specs.RowRule.{maxRows, SizeRight, SizedFault};
-ghost use Rattle.schema_sequences.specs.Content.{groupable, SequenceFault};
+ghost use Rattle.schema_places.specs.Marks.{MarksExactly};
+ghost use Rattle.schema_sequences.specs.Content.{groupable, Clash, InList, SequenceFault};
 ghost use Rattle.schema_sequences.specs.TypeTable.{noType, typed, fits, clashes, typeBy, clashBy, TypeIs, Types};
 
 // (group empty 1), (group empty 2), (group complex) of 10.3: content types 0 empty, 1 complex, 2 simple.
@@ -80,6 +81,7 @@ fn row_type(kind: u32, b: u32, c: u32, d: u32) -> u32
         schema::TEXT => 1,
         schema::DATA => type_if(none_or_typed(b, d), 2),
         schema::VALUE => 2,
+        schema::LIST => 2,
         schema::ATTRIBUTE => type_if(d < 3, 0),
         schema::REF => 1,
         schema::ONE_OR_MORE => type_if(fits_together(c, c), c),
@@ -117,7 +119,7 @@ fn child_type(schema: &[u32], types: &[u32], p: u32, child: u32) -> u32
 // Whether the operands of row r do not go together; its type is added to the table.
 fn type_row(schema: &[u32], types: &mut [u32], r: u32) -> bool
     requires { ⌜ SizeRight (now schema) × Types (now schema) (now types) r × (r < rowsOf (now schema)) ⌝ }
-    ensures { λ clash. ⌜ Decides (SequenceFault (now (schema .entry)) r) clash × Types (now (schema .entry)) (now (types .exit)) (r + 1) ⌝ }
+    ensures { λ clash. ⌜ Decides (Clash (now (schema .entry)) r) clash × Types (now (schema .entry)) (now (types .exit)) (r + 1) ⌝ }
 {
     let kind = schema::kind(schema, r);
     let c = child_type(schema, types, r, schema::child_a(schema, r));
@@ -126,15 +128,27 @@ fn type_row(schema: &[u32], types: &mut [u32], r: u32) -> bool
     row_clashes(kind, c, d)
 }
 
-// The first row whose operands do not go together; the types of the rows before it are added to the table.
-fn scan_types(schema: &[u32], types: &mut [u32]) -> Checked
-    requires { ⌜ SizeRight (now schema) × (now types ≡ zeros maxRows) ⌝ }
+// Whether row r is outside lists and its operands do not go together; its type is added to the table.
+fn judge_row(schema: &[u32], listed: &[u32], types: &mut [u32], r: u32) -> bool
+    requires { ⌜ SizeRight (now schema) × MarksExactly (InList (now schema)) (now listed) × Types (now schema) (now types) r × (r < rowsOf (now schema)) ⌝ }
+    ensures { λ fault. ⌜ Decides (SequenceFault (now (schema .entry)) r) fault × Types (now (schema .entry)) (now (types .exit)) (r + 1) ⌝ }
+{
+    if type_row(schema, types, r) {
+        return tables::word(listed, r as usize) != 1;
+    }
+    false
+}
+
+// The first row outside lists whose operands do not go together; the types of the rows before it are added to the
+// table.
+fn scan_types(schema: &[u32], listed: &[u32], types: &mut [u32]) -> Checked
+    requires { ⌜ SizeRight (now schema) × MarksExactly (InList (now schema)) (now listed) × (now types ≡ zeros maxRows) ⌝ }
     ensures { λ r. ⌜ Finds (SequenceFault (now (schema .entry))) r ⌝ }
 {
     let rows = schema.len() / 3;
     let mut r = 0;
     while r < rows {
-        if type_row(schema, types, r as u32) {
+        if judge_row(schema, listed, types, r as u32) {
             return Checked::Fault(r as u32);
         }
         r += 1;
@@ -142,16 +156,19 @@ fn scan_types(schema: &[u32], types: &mut [u32]) -> Checked
     Checked::Fine
 }
 
-// The first row whose operands do not go together.
+// The first row outside lists whose operands do not go together.
 fn first_clash(schema: &[u32]) -> Checked
     requires { ⌜ SizeRight (now schema) ⌝ }
     ensures { λ r. ⌜ Finds (SequenceFault (now (schema .entry))) r ⌝ }
 {
+    let mut listed = [0u32; schema::MAX_ROWS];
+    schema_places::mark_listed(schema, &mut listed);
     let mut types = [0u32; schema::MAX_ROWS];
-    scan_types(schema, &mut types)
+    scan_types(schema, &listed, &mut types)
 }
 
-// Code 6: the first row whose operands have content types that do not go together, in a table of the right size.
+// Code 6: the first row outside lists whose operands have content types that do not go together, in a table of the
+// right size.
 pub fn check_content(schema: &[u32]) -> Checked
     ensures { λ r. ⌜ Finds (SizedFault (now (schema .entry)) (SequenceFault (now (schema .entry)))) r ⌝ }
 {

@@ -24,11 +24,17 @@ enum-told-5 c = search needs
 enum-told-6 : tie.Need-enum-told-6
 enum-told-6 c = search needs
 
-not-in-except-requires : tie.Need-not-in-except-requires
-not-in-except-requires c κs = search needs
+not-in-list-requires : tie.Need-not-in-list-requires
+not-in-list-requires c κs = search needs
 
 enum-told-7 : tie.Need-enum-told-7
 enum-told-7 c = search needs
+
+not-in-except-requires : tie.Need-not-in-except-requires
+not-in-except-requires c κs = search needs
+
+enum-told-8 : tie.Need-enum-told-8
+enum-told-8 c = search needs
 
 not-in-start-requires : tie.Need-not-in-start-requires
 not-in-start-requires c κs = search needs
@@ -49,10 +55,13 @@ returns-5 : tie.Need-returns-5
 returns-5 c = rw (c .enum-told5 .given .1)
 
 returns-6 : tie.Need-returns-6
-returns-6 c = rw (c .before .enum-told6 .given .1) (c .not-in-except .ensures)
+returns-6 c = rw (c .before .enum-told6 .given .1) (c .not-in-list .ensures)
 
 returns-7 : tie.Need-returns-7
-returns-7 c = rw (c .before .enum-told7 .given .1) (c .not-in-start .ensures)
+returns-7 c = rw (c .before .enum-told7 .given .1) (c .not-in-except .ensures)
+
+returns-8 : tie.Need-returns-8
+returns-8 c = rw (c .before .enum-told8 .given .1) (c .not-in-start .ensures)
 
 pub is-prohibited-spec : {M : Type 1} → statement M
 is-prohibited-spec =
@@ -65,8 +74,10 @@ is-prohibited-spec =
     not-in-attribute-requires
     enum-told-5
     enum-told-6
-    not-in-except-requires
+    not-in-list-requires
     enum-told-7
+    not-in-except-requires
+    enum-told-8
     not-in-start-requires
     returns
     returns-2
@@ -74,4 +85,5 @@ is-prohibited-spec =
     returns-4
     returns-5
     returns-6
-    returns-7)
+    returns-7
+    returns-8)

@@ -66,30 +66,34 @@ returns-4 c = rw (c .match .keys4)
 
 returns-5 : tie.Need-returns-5
 unfolding typeBy
-returns-5 c = c .type-if2 .ensures ∙ rw (c .before .match .keys5)
+returns-5 c = rw (c .match .keys5)
 
 returns-6 : tie.Need-returns-6
 unfolding typeBy
-returns-6 c = rw (c .match .keys6)
+returns-6 c = c .type-if2 .ensures ∙ rw (c .before .match .keys6)
 
 returns-7 : tie.Need-returns-7
 unfolding typeBy
-returns-7 c = c .type-if3 .ensures ∙ rw (c .before .fits-together .ensures, c .before .before .match .keys7)
+returns-7 c = rw (c .match .keys7)
 
 returns-8 : tie.Need-returns-8
 unfolding typeBy
-returns-8 c = c .type-if4 .ensures ∙ rw (c .before .larger .ensures, c .before .before .both-typed .ensures, c .before .before .before .match .keys8)
+returns-8 c = c .type-if3 .ensures ∙ rw (c .before .fits-together .ensures, c .before .before .match .keys8)
 
 returns-9 : tie.Need-returns-9
 unfolding typeBy
-returns-9 c = c .type-if5 .ensures ∙ rw (c .before .larger2 .ensures, c .before .before .fits-together2 .ensures, c .before .before .before .match .keys9)
+returns-9 c = c .type-if4 .ensures ∙ rw (c .before .larger .ensures, c .before .before .both-typed .ensures, c .before .before .before .match .keys9)
 
 returns-10 : tie.Need-returns-10
 unfolding typeBy
-returns-10 c = c .type-if6 .ensures ∙ rw (c .before .larger3 .ensures, c .before .before .fits-together3 .ensures, c .before .before .before .match .keys10)
+returns-10 c = c .type-if5 .ensures ∙ rw (c .before .larger2 .ensures, c .before .before .fits-together2 .ensures, c .before .before .before .match .keys10)
 
 returns-11 : tie.Need-returns-11
-returns-11 c = type-other (c .before .args .kind) (c .before .args .b) (c .before .args .c) (c .before .args .d) (c .match .rest)
+unfolding typeBy
+returns-11 c = c .type-if6 .ensures ∙ rw (c .before .larger3 .ensures, c .before .before .fits-together3 .ensures, c .before .before .before .match .keys11)
+
+returns-12 : tie.Need-returns-12
+returns-12 c = type-other (c .before .args .kind) (c .before .args .b) (c .before .args .c) (c .before .args .d) (c .match .rest)
 
 pub row-type-spec : {M : Type 1} → statement M
 row-type-spec =
@@ -119,4 +123,5 @@ row-type-spec =
     returns-8
     returns-9
     returns-10
-    returns-11)
+    returns-11
+    returns-12)
