@@ -1,6 +1,7 @@
--- Content types (10.3) beside what occurs in a pattern: data and value make it simple, text and ref at least complex.
+-- Content types (10.3) beside what occurs in a pattern: data, value and list make it simple, text and ref at least
+-- complex.
 use mathlib.Core.Path.{_≡_, refl, sym, _∙_, ap, subst}
-use mathlib.Core.Logic.{⊎-elim}
+use mathlib.Core.Logic.{_≢_, ⊎-elim}
 use mathlib.Core.Bool.{Bool, true, false, cond, _&&_, _||_, false≢true}
 use mathlib.Core.List.{List}
 use Prim.Native.Nat.{ℕ, _<_, _≤_}
@@ -14,10 +15,12 @@ use Rattle.schema.specs.Rows.{kindOf, childA, childB, shapeOf, sortOf, isPatter
 use Rattle.schema.specs.Relations.{Child, by-a, by-b, connective, Occurs, itself, within}
 use Rattle.schema.specs.Views.{Pattern}
 use Rattle.schema.proofs.Children.{child-is}
+use Rattle.schema_places.specs.Paths.{sharingKind}
 use Rattle.schema_places.specs.Places.{holdsWhole, notAllowed-inside}
-use Rattle.schema_sequences.specs.Content.{HasType, emptyType, complexType, simpleType, groupable, value-type, data-type-1, data-type-2, text-type, ref-type, empty-type, attribute-type, sharing-type, oneOrMore-type, choice-type, sharing-not-groupable, repeat-not-groupable}
+use Rattle.schema_sequences.specs.Content.{HasType, InList, emptyType, complexType, simpleType, groupable, value-type, data-type-1, data-type-2, list-type, text-type, ref-type, empty-type, attribute-type, sharing-type, oneOrMore-type, choice-type, sharing-not-groupable, repeat-not-groupable}
 use Rattle.schema_restrictions.specs.Schema.{SchemaPasses}
 use Rattle.schema_sequences.proofs.Types.{sharing-kind}
+use Rattle.schema_restrictions.proofs.Outside.{child-outside}
 use Rattle.schema_restrictions.proofs.Typed.{grouped, has-content-type}
 use Rattle.matching_rules.specs.Reach.{Role, simple, itemBy, isSimple, takesAny}
 use Rattle.matching_rules.proofs.RowPatterns.{Sides, Makes}
@@ -25,12 +28,13 @@ use Rattle.matching_rules.proofs.KindTests.{HasRole, role-strings, role
 
 -- the least content type that a row of kind k may have
 abbrev pub leastType : ℕ → ℕ
-leastType k = cond (eqb k kind.value || eqb k kind.«data») simpleType (cond (eqb k kind.text || eqb k kind.ref) complexType emptyType)
+leastType k = cond (eqb k kind.value || eqb k kind.«data» || eqb k kind.list) simpleType (cond (eqb k kind.text || eqb k kind.ref) complexType emptyType)
 
 type-least : {s : List ℕ} {r c : ℕ} → HasType s r c → leastType (kindOf s r) ≤ c
 type-least (value-type e) = rw e (omega arith)
 type-least (data-type-1 e f) = rw e (omega arith)
 type-least (data-type-2 e t) = rw e (omega arith)
+type-least (list-type e) = rw e (omega arith)
 type-least (text-type e) = rw e (omega arith)
 type-least (ref-type e) = rw e (omega arith)
 type-least (empty-type e) = rw e (omega arith)
@@ -60,6 +64,7 @@ module _ (s : List ℕ) (p q : ℕ) (o : connective (kindOf s p) ≡ true) where
   child-type i (value-type e) = no-connective e refl
   child-type i (data-type-1 e f) = no-connective e refl
   child-type i (data-type-2 e t) = no-connective e refl
+  child-type i (list-type e) = no-connective e refl
   child-type i (text-type e) = no-connective e refl
   child-type i (ref-type e) = no-connective e refl
   child-type i (empty-type e) = no-connective e refl
@@ -124,19 +129,21 @@ groupable-told c d e = go (eqb c emptyType) refl (eqb d emptyType) refl (eqb c c
     go false f false g true h false i j = absurd (false≢true j)
     go false f false g false h w i j = absurd (false≢true j)
 
-module _ {strings : ℕ} {s : List ℕ} (pass : SchemaPasses strings s) where
+-- of rows that are below no list
+module _ {strings : ℕ} {s : List ℕ} (pass : SchemaPasses strings s) (p : ℕ) (out : ¬ InList s p) where
   -- notAllowed is no operand, so an operand has a type
-  operand-type : (p q : ℕ) → holdsWhole (kindOf s p) ≡ false → Child s q p → isPattern (sortOf s q) ≡ true → (c : ℕ) × HasType s q c
-  operand-type p q w d i = has-content-type pass q i (λ e. pass .places q (notAllowed-inside p e d w))
+  operand-type : (q : ℕ) → holdsWhole (kindOf s p) ≡ false → kindOf s p ≢ kind.list → Child s q p → isPattern (sortOf s q) ≡ true → (c : ℕ) × HasType s q c
+  operand-type q w n d i = has-content-type pass q i (λ e. pass .places q (notAllowed-inside p e d w)) (child-outside (pass .rows) d n out)
 
   -- the operands of a group or interleave
-  pub sides-grouped : (p p₁ p₂ : ℕ) → Sides s p p₁ p₂ → Grouped s p₁ p₂
-  sides-grouped p p₁ p₂ sides =
-      let t = operand-type p p₁ (sides .not-whole) (sides .first-child) (sides .first-pattern) in
-      let u = operand-type p p₂ (sides .not-whole) (sides .second-child) (sides .second-pattern) in
+  pub sides-grouped : (p₁ p₂ : ℕ) → Sides s p p₁ p₂ → Grouped s p₁ p₂
+  sides-grouped p₁ p₂ sides =
+      let n : kindOf s p ≢ kind.list = (λ e. false≢true (sym (ap sharingKind e) ∙ sides .is-sharing)) in
+      let t = operand-type p₁ (sides .not-whole) n (sides .first-child) (sides .first-pattern) in
+      let u = operand-type p₂ (sides .not-whole) n (sides .second-child) (sides .second-pattern) in
       let a : HasType s (childA s p) (t .0) = rw (sides .first) (t .1) in
       let b : HasType s (childB s p) (u .0) = rw (sides .second) (u .1) in
-      let g = groupable-told (t .0) (u .0) (grouped pass (groupable (t .0) (u .0)) (pass .sequences p) (sharing-not-groupable (t .0) (u .0) (sides .is-sharing) a b)) in
+      let g = groupable-told (t .0) (u .0) (grouped pass (groupable (t .0) (u .0)) (pass .sequences p) (λ f. record { clash = sharing-not-groupable (t .0) (u .0) (sides .is-sharing) a b f; outside = out })) in
       record {
         first = t .0;
         second = u .0;
@@ -147,11 +154,11 @@ module _ {strings : ℕ} {s : List ℕ} (pass : SchemaPasses strings s) where
       }
 
   -- what is repeated is not simple
-  pub repeated-type : (p q : ℕ) → kindOf s p ≡ kind.oneOrMore → childA s p ≡ q → Child s q p → isPattern (sortOf s q) ≡ true → (c : ℕ) × HasType s q c × (c < simpleType)
-  repeated-type p q e f d i =
-      let t = operand-type p q (ap holdsWhole e) d i in
+  pub repeated-type : (q : ℕ) → kindOf s p ≡ kind.oneOrMore → childA s p ≡ q → Child s q p → isPattern (sortOf s q) ≡ true → (c : ℕ) × HasType s q c × (c < simpleType)
+  repeated-type q e f d i =
+      let t = operand-type q (ap holdsWhole e) (λ z. omega arith) d i in
       let a : HasType s (childA s p) (t .0) = rw f (t .1) in
-      let g = groupable-told (t .0) (t .0) (grouped pass (groupable (t .0) (t .0)) (pass .sequences p) (repeat-not-groupable (t .0) e a)) in
+      let g = groupable-told (t .0) (t .0) (grouped pass (groupable (t .0) (t .0)) (pass .sequences p) (λ f. record { clash = repeat-not-groupable (t .0) e a f; outside = out })) in
       (t .0, t .1, low (t .0) (g .0))
     where
       low : (c : ℕ) → (simpleType ≤ c → c < complexType) → c < simpleType

@@ -17,7 +17,7 @@ use Rattle.matching_rules.proofs.Inversion.{cast}
 use Rattle.matching_rules.specs.Spans.{CleanAt, Span}
 use Rattle.matching_rules.proofs.Occurrences.{clean-run, named, taken}
 use Rattle.matching_rules.specs.Reach.{Reaches, namesAttribute, takes}
-use Rattle.matching_rules.specs.Restricted.{Restricted, SidesRestricted}
+use Rattle.matching_rules.specs.Restricted.{Restricted, NamesApart}
 use Rattle.matching_rules.proofs.Runs.{run-join, run-split}
 use Rattle.matching_rules.proofs.Spans.{by-kind}
 
@@ -28,7 +28,7 @@ Tells P A Property = (x : ℕ) → A x ≡ true → (P x ≡ true) ↔ Property 
 module _ (L : Lookups) (NotMatch : List ℕ → ℕ → Type 0) (R : Restricted L) (A : Attributes) (it : ℕ → Item) (K : ℕ → Bool) (p p₁ p₂ : ℕ)
     (P : ℕ → Bool) (names : Tells P A (λ x. Reaches L (namesAttribute L x) (L .pattern p₁))) where
   -- so the sets of a match are the two parts
-  sets : SidesRestricted L p₁ p₂ → {a₁ a₂ : Attributes} {m₁ m₂ : List Item} → A ≡ a₁ ∪ a₂
+  sets : NamesApart L p₁ p₂ → {a₁ a₂ : Attributes} {m₁ m₂ : List Item} → A ≡ a₁ ∪ a₂
       → Match L NotMatch a₁ m₁ (L .pattern p₁) → Match L NotMatch a₂ m₂ (L .pattern p₂) → (a₁ ≡ A ∩ P) × (a₂ ≡ A ∖ P)
   sets r {a₁} {a₂} e d₁ d₂ = (first-part P e in-first in-second, second-part P e in-first in-second)
     where
@@ -39,7 +39,7 @@ module _ (L : Lookups) (NotMatch : List ℕ → ℕ → Type 0) (R : Restricted 
       in-first x h = names x (member x (or-left (a₂ x) h)) .1 (named L NotMatch d₁ x h)
 
       in-second : (x : ℕ) → a₂ x ≡ true → P x ≡ false
-      in-second x h = is-false (P x) (λ k. r .attributes x (names x (member x (or-right (a₁ x) h)) .0 k) (named L NotMatch d₂ x h))
+      in-second x h = is-false (P x) (λ k. r x (names x (member x (or-right (a₁ x) h)) .0 k) (named L NotMatch d₂ x h))
 
   pub span-group : (i j : ℕ) → L .pattern p ≡ group p₁ p₂ → Span L NotMatch A it K p i j ↔ Then (Span L NotMatch (A ∩ P) it K p₁) (Span L NotMatch (A ∖ P) it K p₂) i j
   span-group i j e = (to, from)

@@ -2,14 +2,14 @@
 use Prim.Native.Nat.{ℕ}
 use mathlib.Core.Path.{_≡_, refl, sym, ap, _∙_, subst}
 use mathlib.Core.Bool.{true, false, true≢false}
-use mathlib.Core.List.{List, [], _∷_, _++_, append-nil}
+use mathlib.Core.List.{List, [], _∷_, _++_, append-nil, map}
 use mathlib.Core.Logic.{_⊎_, inl, inr, _↔_}
 use lib.Seq.{append-snoc}
 use Rattle.schema.specs.Views.{Pattern}
 use Rattle.schema.specs.Views as pattern
 use Rattle.matching_rules.specs.Items.{Item, string, Attributes, noAttributes, only, _∪_, Lookups}
 use Rattle.matching_rules.specs.Items as item
-use Rattle.matching_rules.specs.Rules.{Interleaves, Ws, ws-empty, ws-string, Match, WeakMatch, choice-1, choice-2, group, empty, text-1, text-2, oneOrMore-1, oneOrMore-2, interleave, attribute, element, value, data-1, data-2}
+use Rattle.matching_rules.specs.Rules.{Interleaves, Ws, ws-empty, ws-string, Match, WeakMatch, choice-1, choice-2, group, empty, text-1, text-2, oneOrMore-1, oneOrMore-2, interleave, attribute, element, value, data-1, data-2, list}
 use Rattle.matching_rules.specs.Reach.{Role, oneString, roleOf, simple}
 use Rattle.matching_rules.specs.Spans.{Paired}
 use Rattle.matching_rules.proofs.Sequences.{hasElement, strings-append}
@@ -18,7 +18,7 @@ use Rattle.matching_rules.proofs.Sequences.{hasElement, strings-append}
 abbrev pub One : (List ℕ → Type 0) → List Item → Type 0
 One P m = (s : List ℕ) × (m ≡ string s ∷ []) × P s
 
-the-one : (P : List ℕ → Type 0) (s : List ℕ) → One P (string s ∷ []) → P s
+pub the-one : (P : List ℕ → Type 0) (s : List ℕ) → One P (string s ∷ []) → P s
 the-one P s o =
     let e = o .1 in
     let z : o .0 ≡ s = cc in
@@ -77,6 +77,7 @@ module _ (L : Lookups) (NotMatch : List ℕ → ℕ → Type 0) where
   Step (pattern.dataAll t) a m = (a ≡ noAttributes) × One (λ s. Unit {0}) m
   Step (pattern.dataExcept t p) a m = (a ≡ noAttributes) × One (λ s. NotMatch s p) m
   Step (pattern.value t k) a m = (a ≡ noAttributes) × One (λ s. L .Equal t s (L .text k)) m
+  Step (pattern.list p) a m = (a ≡ noAttributes) × One (λ s. Match L NotMatch noAttributes (map string (L .split s)) (L .pattern p)) m
   Step (pattern.attribute nc p) a m = AttributeMatch a m nc (L .pattern p)
   Step (pattern.ref d) a m = ElementMatch a m d
   Step (pattern.oneOrMore p) a m = Match L NotMatch a m (pattern.oneOrMore p)
@@ -101,6 +102,7 @@ module _ (L : Lookups) (NotMatch : List ℕ → ℕ → Type 0) where
   step (value h) = (refl, (_, refl, h))
   step data-1 = (refl, (_, refl, tt))
   step (data-2 h) = (refl, (_, refl, h))
+  step (list d) = (refl, (_, refl, d))
 
   texts : (n m : List Item) → Match L NotMatch noAttributes n pattern.text → hasElement m ≡ false → Match L NotMatch noAttributes (n ++ m) pattern.text
   texts n [] d h = rw append-nil d
@@ -114,6 +116,7 @@ module _ (L : Lookups) (NotMatch : List ℕ → ℕ → Type 0) where
   unstep (pattern.dataAll t) s = cast (sym (s .0)) (sym (s .1 .1)) data-1
   unstep (pattern.dataExcept t p) s = cast (sym (s .0)) (sym (s .1 .1)) (data-2 (s .1 .2))
   unstep (pattern.value t k) s = cast (sym (s .0)) (sym (s .1 .1)) (value (s .1 .2))
+  unstep (pattern.list p) s = cast (sym (s .0)) (sym (s .1 .1)) (list (s .1 .2))
   unstep (pattern.attribute nc p) s = cast (sym (s .set)) (sym (s .sequence)) (attribute (s .row) (s .named) (s .valued))
   unstep (pattern.ref d) s =
       let p = s .paired in
@@ -142,6 +145,9 @@ module _ (L : Lookups) (NotMatch : List ℕ → ℕ → Type 0) where
       one-string (pattern.dataExcept t p) (λ s. NotMatch s p) (stepwise (pattern.dataExcept t p)) (λ s. (λ d. the-one (λ s. NotMatch s p) s (step d .1), data-2))
   string-alone (pattern.value t k) e =
       one-string (pattern.value t k) (λ s. L .Equal t s (L .text k)) (stepwise (pattern.value t k)) (λ s. (λ d. the-one (λ s. L .Equal t s (L .text k)) s (step d .1), value))
+  string-alone (pattern.list p) e =
+      let P : List ℕ → Type 0 = (λ s. Match L NotMatch noAttributes (map string (L .split s)) (L .pattern p)) in
+      one-string (pattern.list p) P (stepwise (pattern.list p)) (λ s. (λ d. the-one P s (step d .1), list))
   string-alone pattern.empty e = absurd (no-role e refl)
   string-alone pattern.notAllowed e = absurd (no-role e refl)
   string-alone pattern.text e = absurd (no-role e refl)

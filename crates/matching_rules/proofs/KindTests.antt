@@ -9,12 +9,12 @@ use Rattle.schema.specs.Views.{Pattern}
 use Rattle.schema_places.specs.Paths as path
 use Rattle.matching_rules.specs.Items.{Lookups}
 use Rattle.matching_rules.specs.Reach.{Role, strings, oneString, anAttribute, anElement, sharing, another, roleOf, shares, simple, stringBy, attributeBy, elementBy, isSharing, isSimple, takesString, namesAttribute, namesElement}
-use Rattle.matching_rules.proofs.RowPatterns.{Makes, makes-empty, makes-notAllowed, makes-text, makes-data, makes-except, makes-value, makes-attribute, makes-ref, makes-oneOrMore, makes-choice, makes-group, makes-interleave, makes-none}
+use Rattle.matching_rules.proofs.RowPatterns.{Makes, makes-empty, makes-notAllowed, makes-text, makes-data, makes-except, makes-value, makes-list, makes-attribute, makes-ref, makes-oneOrMore, makes-choice, makes-group, makes-interleave, makes-none}
 
 -- kind k and field a of a row whose pattern has a role
 pub data HasRole (k a : ℕ) : Role → Type 0 where
   role-strings : k ≡ kind.text → HasRole k a strings
-  role-string : (eqb k kind.value || eqb k kind.«data») ≡ true → HasRole k a oneString
+  role-string : (eqb k kind.value || eqb k kind.«data» || eqb k kind.list) ≡ true → HasRole k a oneString
   role-attribute : k ≡ kind.attribute → HasRole k a (anAttribute a)
   role-element : k ≡ kind.ref → HasRole k a (anElement a)
   role-sharing : path.sharingKind k ≡ true → HasRole k a sharing
@@ -27,6 +27,7 @@ has-role (makes-text e) = role-strings e
 has-role (makes-data e f) = role-string (rw e)
 has-role (makes-except e f) = role-string (rw e)
 has-role (makes-value e) = role-string (rw e)
+has-role (makes-list e) = role-string (rw e)
 has-role (makes-attribute e) = role-attribute e
 has-role (makes-ref e) = role-element e
 has-role (makes-oneOrMore e) = role-another

@@ -9,7 +9,7 @@ use Rattle.schema.specs.Views.{Pattern}
 use Rattle.schema.specs.Views as pattern
 use Rattle.matching_rules.specs.Items.{Item, string, Attributes, Lookups}
 use Rattle.matching_rules.specs.Items as item
-use Rattle.matching_rules.specs.Rules.{Ws, ws-empty, ws-string, Match, choice-1, choice-2, group, empty, text-1, text-2, oneOrMore-1, oneOrMore-2, interleave, attribute, element, value, data-1, data-2}
+use Rattle.matching_rules.specs.Rules.{Ws, ws-empty, ws-string, Match, choice-1, choice-2, group, empty, text-1, text-2, oneOrMore-1, oneOrMore-2, interleave, attribute, element, value, data-1, data-2, list}
 use Rattle.tables.proofs.Booleans.{or-either, both-and}
 use Rattle.matching_rules.proofs.Interleavings.{shuffle, swap, among-first, among-either}
 use Rattle.matching_rules.proofs.Positions.{among-run}
@@ -60,6 +60,7 @@ module _ (L : Lookups) where
     named (value z) y h = absurd (false≢true h)
     named data-1 y h = absurd (false≢true h)
     named (data-2 z) y h = absurd (false≢true h)
+    named (list d) y h = absurd (false≢true h)
 
     -- a test passes each item of a sequence that (element) derives from good items
     abbrev Refs : (Item → Pattern → Bool) → (Item → Type 0) → Type 0
@@ -93,6 +94,7 @@ module _ (L : Lookups) where
       reached (value {t = t} {k = k} z) g y h = one-string (pattern.value t k) refl h
       reached (data-1 {t = t}) g y h = one-string (pattern.dataAll t) refl h
       reached (data-2 {t = t} {p = p} z) g y h = one-string (pattern.dataExcept t p) refl h
+      reached (list {p = p} d) g y h = one-string (pattern.list p) refl h
 
     pub taken : {a : Attributes} {m : List Item} {x : Pattern} → Match L NotMatch a m x → Clean m → (y : Item) → Among y m → Reaches L (takes L y) x
     taken {m = m} d c = reached (takes L) (λ y. Among y m) (λ s x h. h) by-ref d (λ y h. h)

@@ -12,7 +12,7 @@ use Rattle.matching_rules.specs.Rules.{OkAsChildren, ok-empty, ok-elemen
 use Rattle.matching_rules.proofs.Inversion.{One}
 use Rattle.matching_rules.specs.Spans.{CleanAt, run, Span}
 use Rattle.matching_rules.proofs.Padding.{unstrip}
-use Rattle.matching_rules.specs.Restricted.{Restricted}
+use Rattle.matching_rules.specs.Restricted.{Sequential}
 use Rattle.matching_rules.proofs.Sequences.{hasElement}
 use Rattle.matching_rules.proofs.Spans.{span-whole}
 use Rattle.matching_rules.proofs.Stripping.{notWhitespace, stripped, strip}
@@ -82,9 +82,9 @@ module _ (L : Lookups) where
     first-rule h (weak-match-2 (ws-string w) d) = absurd (false≢true h)
     first-rule h (weak-match-3 d) = absurd (false≢true h)
 
-    module _ (R : Restricted L) (p : ℕ) {m : List Item} (o : OkAsChildren m) (h : hasElement m ≡ true) where
+    module _ (p : ℕ) (q : Sequential L (L .pattern p)) {m : List Item} (o : OkAsChildren m) (h : hasElement m ≡ true) where
       pub weak-stripped : WeakMatch L NotMatch a m (L .pattern p) ↔ Match L NotMatch a (stripped L m) (L .pattern p)
-      weak-stripped = (λ w. strip L NotMatch R p h (first-rule h w), λ d. weak-match-1 (unstrip L NotMatch o h d))
+      weak-stripped = (λ w. strip L NotMatch q h (first-rule h w), λ d. weak-match-1 (unstrip L NotMatch o h d))
 
       -- as a span over the positions without whitespace
       pub weak-span : (it : ℕ → Item) (K : ℕ → Bool) (n : ℕ) → run it K 0 n ≡ stripped L m → WeakMatch L NotMatch a m (L .pattern p) ↔ Span L NotMatch a it K p 0 n

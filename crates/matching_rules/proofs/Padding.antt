@@ -6,7 +6,7 @@ use mathlib.Core.List.{List, [], _∷_, _++_, append-nil, append-assoc}
 use Rattle.schema.specs.Views.{Pattern}
 use Rattle.matching_rules.specs.Items.{Item, string, Attributes, Lookups}
 use Rattle.matching_rules.specs.Items as item
-use Rattle.matching_rules.specs.Rules.{OkAsChildren, ok-empty, ok-element, ok-last, ok-string, Ws, ws-empty, ws-string, Match, choice-1, choice-2, group, empty, text-1, text-2, oneOrMore-1, oneOrMore-2, interleave, attribute, element, value, data-1, data-2}
+use Rattle.matching_rules.specs.Rules.{OkAsChildren, ok-empty, ok-element, ok-last, ok-string, Ws, ws-empty, ws-string, Match, choice-1, choice-2, group, empty, text-1, text-2, oneOrMore-1, oneOrMore-2, interleave, attribute, element, value, data-1, data-2, list}
 use Rattle.matching_rules.proofs.Interleavings.{Shuffle, done, left, right, lefts, rights, shuffle, interleaved}
 use Rattle.matching_rules.proofs.Inversion.{cast}
 use Rattle.matching_rules.proofs.Runs.{kept}
@@ -106,6 +106,7 @@ module _ (L : Lookups) where
     pad (value z) h = cast L NotMatch refl (sym (padded-one h)) (value z)
     pad data-1 h = cast L NotMatch refl (sym (padded-one h)) data-1
     pad (data-2 z) h = cast L NotMatch refl (sym (padded-one h)) (data-2 z)
+    pad (list d) h = cast L NotMatch refl (sym (padded-one h)) (list d)
 
   -- children with an element are their stripped form, padded
   element-padded : {w v m n : List Item} (e : ℕ) → Ws L w → Ws L v → Padded m n → Padded (item.element e ∷ m) (w ++ item.element e ∷ (v ++ n))

@@ -1,35 +1,37 @@
 -- Every schema that passes has what matching needs of it.
 use mathlib.Core.Path.{_≡_, refl, sym, _∙_, ap, subst}
 use mathlib.Core.Logic.{_⊎_, inl, inr, ⊎-elim}
-use mathlib.Core.Bool.{true, false≢true}
+use mathlib.Core.Bool.{true, true≢false, false≢true}
 use mathlib.Core.List.{List}
 use Prim.Native.Nat.{ℕ, _≤_}
 use native.Mathlib.Omega.{arith}
 use Rattle.tables.specs.Tables.{Tables}
 use Rattle.schema.specs.Kinds as kind
-use Rattle.schema.specs.Rows.{rowsOf, kindOf, aOf, shapeOf, sortOf, isElement, childA}
-use Rattle.schema.specs.Relations.{Occurs}
+use Rattle.schema.specs.Rows.{rowsOf, kindOf, aOf, bOf, shapeOf, sortOf, isElement, childA}
+use Rattle.schema.specs.Relations.{Child, by-b, connective, Occurs, itself, within}
 use Rattle.schema.specs.Views.{patternBy, patternOf, oneOrMore, noPattern}
 use Rattle.schema.proofs.Children.{child-less, kind-past}
+use Rattle.schema.proofs.Fields.{pattern-b}
 use Rattle.tables.proofs.Booleans.{and-both}
 use Rattle.schema.proofs.RowLaws.{right-size, whole-rows}
 use Rattle.schema.proofs.Sorts.{definition-kind, class-a}
 use Rattle.schema_classes.specs.Membership.{inClass}
 use Rattle.schema_places.specs.Paths as path
 use Rattle.instance.specs.Nodes as node
-use Rattle.schema_sequences.specs.Content.{HasType, simpleType, complexType}
+use Rattle.schema_sequences.specs.Content.{HasType, InList, simpleType, complexType}
 use Rattle.schema_occurrences.specs.Interleaves.{classReferred}
 use Rattle.schema_restrictions.specs.Schema.{SchemaPasses}
-use Rattle.schema_restrictions.proofs.Passes.{attributes-apart, elements-apart, texts-apart}
+use Rattle.schema_restrictions.proofs.Passes.{attributes-apart, elements-apart, texts-apart, list-flat}
+use Rattle.schema_restrictions.proofs.Outside.{whole-outside, child-outside}
 use Rattle.schema_restrictions.proofs.Passes as passes
 use Rattle.matching_rules.specs.Items.{Item, element, string, Lookups}
 use Rattle.matching_rules.specs.Job.{lookups}
 use Rattle.matching_rules.specs.Reach.{Subpattern, operand, Reaches, isSimple, takesAny, takesString, namesAttribute, namesElement, takes, repeated}
-use Rattle.matching_rules.specs.Restricted.{Flat, SidesRestricted, Restricted}
+use Rattle.matching_rules.specs.Restricted.{Flat, NamesApart, Sequenced, Sequential, Restricted}
 use Rattle.matching_rules.proofs.RowPatterns.{row-makes, from-oneOrMore, from-interleave, has-kind, Sides, group-sides, interleave-sides, repeated-sides, part-child, reached-row, inside-row, occurs-below, child-below}
 use Rattle.matching_rules.proofs.ContentTypes.{leastType, occurs-least, simple-least, any-least, Grouped, sides-grouped, repeated-type}
 use Rattle.matching_rules.proofs.KindTests.{attribute-made, ref-made, sharing-made, string-kind}
-use Rattle.matching_rules.proofs.Paths.{excepts-plain}
+use Rattle.matching_rules.proofs.Paths.{excepts-plain, lists-listable}
 
 module _ {strings : ℕ} (J : Tables) (pass : SchemaPasses strings (J .schema)) where
   abbrev s : List ℕ
@@ -67,26 +69,29 @@ module _ {strings : ℕ} (J : Tables) (pass : SchemaPasses strings (J .schema)) 
       let r = reached-row J (pass .rows) p h in
       omega (arith, any-least (patternOf s (r .0)) (row-makes s (r .0) refl) (r .2), occurs-least (r .1) w)
 
-  -- the sides of a group or interleave
-  sides-restricted : {p p₁ p₂ : ℕ} → Sides s p p₁ p₂ → SidesRestricted L p₁ p₂
-  sides-restricted {p} {p₁} {p₂} sides = record {
-    attributes = apart;
-    first = λ h i. let f = grouped .before (simple-type (grouped .first-type) h) in omega (arith, any-type (grouped .second-type) i);
-    second = λ h i. let f = grouped .after (simple-type (grouped .second-type) h) in omega (arith, any-type (grouped .first-type) i);
-  }
-    where
-      grouped : Grouped s p₁ p₂
-      grouped = sides-grouped pass p p₁ p₂ sides
+  -- no attribute name on both sides of a group or interleave (10.4)
+  names-apart : {p p₁ p₂ : ℕ} → Sides s p p₁ p₂ → NamesApart L p₁ p₂
+  names-apart {p} {p₁} {p₂} sides u h i =
+      let x = reached-row J (pass .rows) p₁ h in
+      let y = reached-row J (pass .rows) p₂ i in
+      let a = attribute-class (x .0) u (x .2) in
+      let b = attribute-class (y .0) u (y .2) in
+      attributes-apart pass p (x .0) (y .0) (node.aOf t u) (node.bOf t u) (sides .is-sharing) (rw (sides .first) (x .1)) (a .0) (rw (sides .second) (y .1)) (b .0) (a .1) (b .1)
 
-      apart : (u : ℕ) → Reaches L (namesAttribute L u) (patternOf s p₁) → ¬ Reaches L (namesAttribute L u) (patternOf s p₂)
-      apart u h i =
-          let x = reached-row J (pass .rows) p₁ h in
-          let y = reached-row J (pass .rows) p₂ i in
-          let a = attribute-class (x .0) u (x .2) in
-          let b = attribute-class (y .0) u (y .2) in
-          attributes-apart pass p (x .0) (y .0) (node.aOf t u) (node.bOf t u) (sides .is-sharing) (rw (sides .first) (x .1)) (a .0) (rw (sides .second) (y .1)) (b .0) (a .1) (b .1)
+  -- 10.3 of a row that is below no list
+  sequenced : {p p₁ p₂ : ℕ} → ¬ InList s p → Sides s p p₁ p₂ → Sequenced L p₁ p₂
+  sequenced {p} {p₁} {p₂} out sides =
+      let grouped = sides-grouped pass p out p₁ p₂ sides in
+      record {
+        first = λ h i. let f = grouped .before (simple-type (grouped .first-type) h) in omega (arith, any-type (grouped .second-type) i);
+        second = λ h i. let f = grouped .after (simple-type (grouped .second-type) h) in omega (arith, any-type (grouped .first-type) i);
+      }
 
-  -- a row whose pattern takes strings is text, or has the type of data and value
+  -- an interleave stands in no list
+  interleave-outside : (p : ℕ) → kindOf s p ≡ kind.interleave → ¬ InList s p
+  interleave-outside p e h = true≢false (rw e at (list-flat pass p (h .row) (h .source) (h .below)))
+
+  -- a row whose pattern takes strings is text, or has content type simple
   abbrev TextOrSimple : ℕ → Type 0
   TextOrSimple x = (kindOf s x ≡ kind.text) ⊎ (simpleType ≤ leastType (kindOf s x))
 
@@ -97,8 +102,8 @@ module _ {strings : ℕ} (J : Tables) (pass : SchemaPasses strings (J .schema)) 
   complex-at-least x (inl e) = rw e (omega arith)
   complex-at-least x (inr h) = omega arith
 
-  -- strings go to one side of an interleave: data or value on one side leaves the other without items (10.3), and text
-  -- stands on one side only (10.5)
+  -- strings go to one side of an interleave: data, value or list on one side leaves the other without items (10.3), and
+  -- text stands on one side only (10.5)
   strings-apart : {p p₁ p₂ : ℕ} → kindOf s p ≡ kind.interleave → Sides s p p₁ p₂ → Reaches L takesString (patternOf s p₁) → ¬ Reaches L takesString (patternOf s p₂)
   strings-apart {p} {p₁} {p₂} e sides h i = go (text-or-simple (x .0) (x .2)) (text-or-simple (y .0) (y .2))
     where
@@ -109,7 +114,7 @@ module _ {strings : ℕ} (J : Tables) (pass : SchemaPasses strings (J .schema)) 
       y = reached-row J (pass .rows) p₂ i
 
       grouped : Grouped s p₁ p₂
-      grouped = sides-grouped pass p p₁ p₂ sides
+      grouped = sides-grouped pass p (interleave-outside p e) p₁ p₂ sides
 
       low : leastType (kindOf s (x .0)) ≤ grouped .first
       low = occurs-least (x .1) (grouped .first-type)
@@ -146,13 +151,35 @@ module _ {strings : ℕ} (J : Tables) (pass : SchemaPasses strings (J .schema)) 
       itself : (x z : ℕ) → z ≡ x → path.sharingKind (kindOf s x) ≡ true → kindOf s z ≡ kind.attribute → ⊥
       itself x z f g a = false≢true (sym (ap path.sharingKind (ap (kindOf s) (sym f) ∙ a)) ∙ g)
 
-  -- nor data or value in what is repeated (10.3)
-  not-simple : (p q : ℕ) → patternOf s p ≡ oneOrMore q → ¬ Reaches L isSimple (patternOf s q)
-  not-simple p q e h =
+  -- nothing of content type simple is repeated (10.3)
+  not-simple : (p q : ℕ) → ¬ InList s p → patternOf s p ≡ oneOrMore q → ¬ Reaches L isSimple (patternOf s q)
+  not-simple p q out e h =
       let m = from-oneOrMore (row-makes s p e) in
       let i = repeated-sides (pass .rows) p e in
-      let w = repeated-type pass p q (m .0) (i .0) (i .1) (i .2) in
+      let w = repeated-type pass p out q (m .0) (i .0) (i .1) (i .2) in
       omega (arith, simple-type (w .1) h)
+
+  -- what occurs in a row that is below no list is below none
+  occurs-outside : {p r : ℕ} → ¬ InList s p → Occurs s r p → ¬ InList s r
+  occurs-outside out itself = out
+  occurs-outside out (within k c o) = occurs-outside (child-outside (pass .rows) c (λ e. false≢true (sym (ap connective e) ∙ k)) out) o
+
+  sequential : (d : ℕ) → isElement (sortOf s d) ≡ true → Sequential L (patternOf s (bOf s d))
+  unfolding shapeOf
+  sequential d i = record {
+    groups = λ p₁ p₂ w. let r = inside-row J (pass .rows) (bOf s d) w in sequenced (out (r .1)) (group-sides (pass .rows) (r .0) (r .2));
+    interleaves = λ p₁ p₂ w. let r = inside-row J (pass .rows) (bOf s d) w in sequenced (out (r .1)) (interleave-sides (pass .rows) (r .0) (r .2));
+    repeats = λ q w. let r = inside-row J (pass .rows) (bOf s d) w in not-simple (r .0) q (out (r .1)) (r .2);
+  }
+    where
+      k : kindOf s d ≡ kind.element
+      k = definition-kind s d i
+
+      content : Child s (bOf s d) d
+      content = by-b (pattern-b strings s (pass .rows) d (has-kind (pass .rows) k (λ z. omega arith)) kind.element k refl .0) refl
+
+      out : {r : ℕ} → Occurs s r (bOf s d) → ¬ InList s r
+      out o = occurs-outside (child-outside (pass .rows) content (λ e. omega (arith, k)) (λ h. whole-outside (rw k refl) (h .below))) o
 
   -- past the table there is no pattern
   past : (p : ℕ) → rowsOf s ≤ p → patternOf s p ≡ noPattern
@@ -164,10 +191,11 @@ module _ {strings : ℕ} (J : Tables) (pass : SchemaPasses strings (J .schema)) 
     bounded = past;
     falls = λ p q i. child-less (part-child (pass .rows) p i);
     same-name = λ x. (refl, refl);
-    groups = λ p p₁ p₂ e. sides-restricted (group-sides (pass .rows) p e);
-    interleaves = λ p p₁ p₂ e. sides-restricted (interleave-sides (pass .rows) p e);
+    groups = λ p p₁ p₂ e. names-apart (group-sides (pass .rows) p e);
+    interleaves = λ p p₁ p₂ e. names-apart (interleave-sides (pass .rows) p e);
     items = λ p p₁ p₂ e. items-apart (from-interleave (row-makes s p e) .0) (interleave-sides (pass .rows) p e);
     repeats-flat = flat;
-    repeats-sequenced = not-simple;
-    excepts = λ p d q e. excepts-plain J pass p d q e;
+    excepts = excepts-plain J pass;
+    lists = lists-listable J pass;
+    contents = sequential;
   }

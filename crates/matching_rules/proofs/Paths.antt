@@ -1,5 +1,5 @@
--- In a schema that passes: what stands in an except is plain (10.2.5), and below start stand choice, ref and notAllowed
--- alone (10.2.6).
+-- In a schema that passes: what stands in a list may stand there (10.2.4), what stands in an except is plain (10.2.5),
+-- and below start stand choice, ref and notAllowed alone (10.2.6).
 use mathlib.Core.Path.{_≡_, refl, sym, subst}
 use mathlib.Core.Logic.{_≢_}
 use mathlib.Core.Bool.{Bool, true, false, true≢false}
@@ -11,20 +11,20 @@ use Rattle.schema.specs.Kinds as kind
 use Rattle.schema.specs.Rows.{rowsOf, kindOf, aOf, shapeOf, sortOf, isPattern}
 use Rattle.schema.specs.RowRule.{no-row}
 use Rattle.schema.specs.Relations.{Child, by-a, Below, child}
-use Rattle.schema.specs.Views.{Pattern, patternOf, dataExcept}
+use Rattle.schema.specs.Views.{Pattern, patternOf, dataExcept, list}
 use Rattle.schema.proofs.Children.{child-less}
 use Rattle.schema.proofs.Fields.{pattern-a, pattern-kind, PatternKind}
 use Rattle.schema.proofs.RowLaws.{right-size}
 use Rattle.schema.proofs.Sorts.{last-kind}
-use Rattle.schema_places.specs.Paths.{notInExcept, notInStart, in-start}
+use Rattle.schema_places.specs.Paths.{notInList, notInExcept, notInStart, in-start}
 use Rattle.schema_places.proofs.Sweep.{further}
 use Rattle.schema_restrictions.specs.Schema.{SchemaPasses}
-use Rattle.schema_restrictions.proofs.Passes.{except-plain}
+use Rattle.schema_restrictions.proofs.Passes.{list-flat, list-no-notAllowed, except-plain}
 use Rattle.matching_rules.specs.Items.{Lookups}
 use Rattle.matching_rules.specs.Job.{lookups, startRow}
-use Rattle.matching_rules.specs.Reach.{Subpattern, operand, choice-first, choice-second, of-except}
-use Rattle.matching_rules.specs.Restricted.{Plain, plain-notAllowed, plain-value, plain-data, plain-except, plain-choice, Starts, starts-notAllowed, starts-ref, starts-choice}
-use Rattle.matching_rules.proofs.RowPatterns.{has-kind, Makes, makes-empty, makes-notAllowed, makes-text, makes-data, makes-except, makes-value, makes-attribute, makes-ref, makes-oneOrMore, makes-choice, makes-group, makes-interleave, makes-none, row-makes, from-except, part-child, part-pattern}
+use Rattle.matching_rules.specs.Reach.{Subpattern, operand, repeated, choice-first, choice-second, group-first, group-second, of-list, of-except}
+use Rattle.matching_rules.specs.Restricted.{Plain, plain-notAllowed, plain-value, plain-data, plain-except, plain-choice, Starts, starts-notAllowed, starts-ref, starts-choice, Listable, listable-empty, listable-value, listable-data, listable-except, listable-oneOrMore, listable-choice, listable-group}
+use Rattle.matching_rules.proofs.RowPatterns.{has-kind, Makes, makes-empty, makes-notAllowed, makes-text, makes-data, makes-except, makes-value, makes-list, makes-attribute, makes-ref, makes-oneOrMore, makes-choice, makes-group, makes-interleave, makes-none, row-makes, from-except, from-list, part-child, part-pattern}
 
 module _ (L : Lookups) where
   -- a pattern whose kind may stand in an except is plain if its parts are
@@ -35,6 +35,7 @@ module _ (L : Lookups) where
   plain-made (makes-data e g) i f below = plain-data
   plain-made (makes-except e g) i f below = plain-except (below _ of-except)
   plain-made (makes-value e) i f below = plain-value
+  plain-made (makes-list e) i f below = absurd (true≢false (rw e at f))
   plain-made (makes-attribute e) i f below = absurd (true≢false (rw e at f))
   plain-made (makes-ref e) i f below = absurd (true≢false (rw e at f))
   plain-made (makes-oneOrMore e) i f below = absurd (true≢false (rw e at f))
@@ -51,6 +52,7 @@ module _ (L : Lookups) where
   starts-made (makes-data e g) i f below = absurd (true≢false (rw e at f))
   starts-made (makes-except e g) i f below = absurd (true≢false (rw e at f))
   starts-made (makes-value e) i f below = absurd (true≢false (rw e at f))
+  starts-made (makes-list e) i f below = absurd (true≢false (rw e at f))
   starts-made (makes-attribute e) i f below = absurd (true≢false (rw e at f))
   starts-made (makes-ref e) i f below = starts-ref
   starts-made (makes-oneOrMore e) i f below = absurd (true≢false (rw e at f))
@@ -58,6 +60,25 @@ module _ (L : Lookups) where
   starts-made (makes-group e) i f below = absurd (true≢false (rw e at f))
   starts-made (makes-interleave e) i f below = absurd (true≢false (rw e at f))
   starts-made (makes-none n) i f below = absurd (n i)
+
+  -- and below a list, where an except is plain
+  listable-made :
+      {k a b : ℕ} {x : Pattern} → Makes k a b x → PatternKind k → notInList k ≡ false → k ≢ kind.notAllowed → ((t q : ℕ) → x ≡ dataExcept t q → Plain L (L .pattern q))
+      → ((q : ℕ) → Subpattern q x → Listable L (L .pattern q)) → Listable L x
+  listable-made (makes-empty e) i f n plain below = listable-empty
+  listable-made (makes-notAllowed e) i f n plain below = absurd (n e)
+  listable-made (makes-text e) i f n plain below = absurd (true≢false (rw e at f))
+  listable-made (makes-data e g) i f n plain below = listable-data
+  listable-made (makes-except e g) i f n plain below = listable-except (plain _ _ refl)
+  listable-made (makes-value e) i f n plain below = listable-value
+  listable-made (makes-list e) i f n plain below = absurd (true≢false (rw e at f))
+  listable-made (makes-attribute e) i f n plain below = absurd (true≢false (rw e at f))
+  listable-made (makes-ref e) i f n plain below = absurd (true≢false (rw e at f))
+  listable-made (makes-oneOrMore e) i f n plain below = listable-oneOrMore (below _ (operand repeated))
+  listable-made (makes-choice e) i f n plain below = listable-choice (below _ (operand choice-first)) (below _ (operand choice-second))
+  listable-made (makes-group e) i f n plain below = listable-group (below _ (operand group-first)) (below _ (operand group-second))
+  listable-made (makes-interleave e) i f n plain below = absurd (true≢false (rw e at f))
+  listable-made (makes-none m) i f n plain below = absurd (m i)
 
 module _ {strings : ℕ} {s : List ℕ} (pass : SchemaPasses strings s) where
   -- P holds of every pattern below row p, where it holds of a row by the patterns below the row
@@ -98,6 +119,14 @@ module _ {strings : ℕ} (J : Tables) (pass : SchemaPasses strings (J .schema)) 
       let part : Subpattern q (patternOf (J .schema) p) = subst (Subpattern q) (sym e) of-except in
       below-all pass (λ (r : ℕ). Plain (lookups J) (patternOf (J .schema) r)) p
       (λ r b i below. plain-made (lookups J) (row-makes (J .schema) r refl) (pattern-kind (kindOf (J .schema) r) i) (except-plain pass r p (m .0) b) below)
+      (suc q) q (omega arith) (child (part-child (pass .rows) p part)) (part-pattern (pass .rows) p part)
+
+  pub lists-listable : (p q : ℕ) → patternOf (J .schema) p ≡ list q → Listable (lookups J) (patternOf (J .schema) q)
+  lists-listable p q e =
+      let k = from-list (row-makes (J .schema) p e) .0 in
+      let part : Subpattern q (patternOf (J .schema) p) = subst (Subpattern q) (sym e) of-list in
+      below-all pass (λ (r : ℕ). Listable (lookups J) (patternOf (J .schema) r)) p
+      (λ r b i below. listable-made (lookups J) (row-makes (J .schema) r refl) (pattern-kind (kindOf (J .schema) r) i) (list-flat pass r p k b) (list-no-notAllowed pass r p k b) (excepts-plain r) below)
       (suc q) q (omega arith) (child (part-child (pass .rows) p part)) (part-pattern (pass .rows) p part)
 
   pub start-starts : Starts (lookups J) (patternOf (J .schema) (aOf (J .schema) (startRow J)))

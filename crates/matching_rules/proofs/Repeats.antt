@@ -12,7 +12,7 @@ use Rattle.schema.specs.Views.{Pattern}
 use Rattle.schema.specs.Views as pattern
 use Rattle.relations.specs.Relations.{Plus, once, more}
 use Rattle.matching_rules.specs.Items.{Item, Attributes, noAttributes, only, _∪_, Lookups}
-use Rattle.matching_rules.specs.Rules.{Disjoint, Match, choice-1, choice-2, group, empty, text-1, text-2, oneOrMore-1, oneOrMore-2, interleave, attribute, element, value, data-1, data-2}
+use Rattle.matching_rules.specs.Rules.{Disjoint, Match, choice-1, choice-2, group, empty, text-1, text-2, oneOrMore-1, oneOrMore-2, interleave, attribute, element, value, data-1, data-2, list}
 use Rattle.tables.proofs.Booleans.{or-either, and-left}
 use Rattle.matching_rules.proofs.Booleans.{_∖_, no-member, ∖-only, one-and-rest, none-left, none-right}
 use Rattle.matching_rules.proofs.Inversion.{cast}
@@ -76,6 +76,7 @@ module _ (L : Lookups) where
     apart (value z) f = only-items (value z)
     apart data-1 f = only-items data-1
     apart (data-2 z) f = only-items (data-2 z)
+    apart (list d) f = only-items (list d)
 
     module _ (q : ℕ) where
       -- the same of the repetitions of a pattern

@@ -13,13 +13,13 @@ use Rattle.schema.specs.Kinds as kind
 use Rattle.schema.specs.Rows.{rowsOf, kindOf, aOf, bOf, shapeOf, sortOf, isPattern, childA, childB}
 use Rattle.schema.specs.RowRule.{RowsRight}
 use Rattle.schema.specs.Relations.{Child, by-a, by-b, Below, child, deeper, connective, Occurs, itself, within}
-use Rattle.schema.specs.Views.{Pattern, patternBy, patternOf, empty, notAllowed, text, dataAll, dataExcept, value, attribute, ref, oneOrMore, choice, group, interleave, noPattern}
+use Rattle.schema.specs.Views.{Pattern, patternBy, patternOf, empty, notAllowed, text, dataAll, dataExcept, value, list, attribute, ref, oneOrMore, choice, group, interleave, noPattern}
 use Rattle.schema.specs.declared.Field.the-variants.{APattern}
-use Rattle.schema.proofs.Fields.{pattern-a, pattern-b, pattern-or-none, PatternKind, is-empty, is-notAllowed, is-text, is-data, is-value, is-attribute, is-ref, is-oneOrMore, is-choice, is-group, is-interleave}
+use Rattle.schema.proofs.Fields.{pattern-a, pattern-b, pattern-or-none, PatternKind, is-empty, is-notAllowed, is-text, is-data, is-value, is-list, is-attribute, is-ref, is-oneOrMore, is-choice, is-group, is-interleave}
 use Rattle.schema.proofs.RowLaws.{right-size, in-table}
 use Rattle.schema_places.specs.Paths.{sharingKind}
 use Rattle.schema_places.specs.Places.{holdsWhole}
-use Rattle.matching_rules.specs.Reach.{Operand, repeated, choice-first, choice-second, group-first, group-second, interleave-first, interleave-second, Subpattern, operand, of-attribute, of-except, Reaches, here, there, Within, itself, down}
+use Rattle.matching_rules.specs.Reach.{Operand, repeated, choice-first, choice-second, group-first, group-second, interleave-first, interleave-second, Subpattern, operand, of-attribute, of-list, of-except, Reaches, here, there, Within, itself, down}
 use Rattle.matching_rules.specs.Job.{lookups}
 
 -- kind k and fields a and b make a pattern
@@ -30,6 +30,7 @@ pub data Makes (k a b : ℕ) : Pattern → Type 0 where
   makes-data : k ≡ kind.«data» → b ≡ kind.noRow → Makes k a b (dataAll a)
   makes-except : k ≡ kind.«data» → b ≢ kind.noRow → Makes k a b (dataExcept a b)
   makes-value : k ≡ kind.value → Makes k a b (value a b)
+  makes-list : k ≡ kind.list → Makes k a b (list a)
   makes-attribute : k ≡ kind.attribute → Makes k a b (attribute a b)
   makes-ref : k ≡ kind.ref → Makes k a b (ref a)
   makes-oneOrMore : k ≡ kind.oneOrMore → Makes k a b (oneOrMore a)
@@ -43,19 +44,20 @@ either P true f g = f refl
 either P false f g = g refl
 
 -- a number that is none of the kinds of patterns
-module _ (k : ℕ) (e₁ : eqb k kind.empty ≡ false) (e₂ : eqb k kind.notAllowed ≡ false) (e₃ : eqb k kind.text ≡ false) (e₄ : eqb k kind.«data» ≡ false) (e₅ : eqb k kind.value ≡ false) (e₆ : eqb k kind.attribute ≡ false) (e₇ : eqb k kind.ref ≡ false) (e₈ : eqb k kind.oneOrMore ≡ false) (e₉ : eqb k kind.choice ≡ false) (e₁₀ : eqb k kind.group ≡ false) (e₁₁ : eqb k kind.interleave ≡ false) where
+module _ (k : ℕ) (e₁ : eqb k kind.empty ≡ false) (e₂ : eqb k kind.notAllowed ≡ false) (e₃ : eqb k kind.text ≡ false) (e₄ : eqb k kind.«data» ≡ false) (e₅ : eqb k kind.value ≡ false) (e₆ : eqb k kind.list ≡ false) (e₇ : eqb k kind.attribute ≡ false) (e₈ : eqb k kind.ref ≡ false) (e₉ : eqb k kind.oneOrMore ≡ false) (e₁₀ : eqb k kind.choice ≡ false) (e₁₁ : eqb k kind.group ≡ false) (e₁₂ : eqb k kind.interleave ≡ false) where
   no-kind : ¬ PatternKind k
   no-kind (is-empty e) = eqb-false _ _ e₁ e
   no-kind (is-notAllowed e) = eqb-false _ _ e₂ e
   no-kind (is-text e) = eqb-false _ _ e₃ e
   no-kind (is-data e) = eqb-false _ _ e₄ e
   no-kind (is-value e) = eqb-false _ _ e₅ e
-  no-kind (is-attribute e) = eqb-false _ _ e₆ e
-  no-kind (is-ref e) = eqb-false _ _ e₇ e
-  no-kind (is-oneOrMore e) = eqb-false _ _ e₈ e
-  no-kind (is-choice e) = eqb-false _ _ e₉ e
-  no-kind (is-group e) = eqb-false _ _ e₁₀ e
-  no-kind (is-interleave e) = eqb-false _ _ e₁₁ e
+  no-kind (is-list e) = eqb-false _ _ e₆ e
+  no-kind (is-attribute e) = eqb-false _ _ e₇ e
+  no-kind (is-ref e) = eqb-false _ _ e₈ e
+  no-kind (is-oneOrMore e) = eqb-false _ _ e₉ e
+  no-kind (is-choice e) = eqb-false _ _ e₁₀ e
+  no-kind (is-group e) = eqb-false _ _ e₁₁ e
+  no-kind (is-interleave e) = eqb-false _ _ e₁₂ e
 
 made : (k a b : ℕ) → Makes k a b (patternBy k a b)
 unfolding patternBy
@@ -66,12 +68,13 @@ made k a b =
     either P (eqb k kind.text) (λ e. makes-text (eqb-true _ _ e)) (λ e₃.
     either P (eqb k kind.«data») (λ e. either P (eqb b kind.noRow) (λ f. makes-data (eqb-true _ _ e) (eqb-true _ _ f)) (λ f. makes-except (eqb-true _ _ e) (eqb-false _ _ f))) (λ e₄.
     either P (eqb k kind.value) (λ e. makes-value (eqb-true _ _ e)) (λ e₅.
-    either P (eqb k kind.attribute) (λ e. makes-attribute (eqb-true _ _ e)) (λ e₆.
-    either P (eqb k kind.ref) (λ e. makes-ref (eqb-true _ _ e)) (λ e₇.
-    either P (eqb k kind.oneOrMore) (λ e. makes-oneOrMore (eqb-true _ _ e)) (λ e₈.
-    either P (eqb k kind.choice) (λ e. makes-choice (eqb-true _ _ e)) (λ e₉.
-    either P (eqb k kind.group) (λ e. makes-group (eqb-true _ _ e)) (λ e₁₀.
-    either P (eqb k kind.interleave) (λ e. makes-interleave (eqb-true _ _ e)) (λ e₁₁. makes-none (no-kind k e₁ e₂ e₃ e₄ e₅ e₆ e₇ e₈ e₉ e₁₀ e₁₁))))))))))))
+    either P (eqb k kind.list) (λ e. makes-list (eqb-true _ _ e)) (λ e₆.
+    either P (eqb k kind.attribute) (λ e. makes-attribute (eqb-true _ _ e)) (λ e₇.
+    either P (eqb k kind.ref) (λ e. makes-ref (eqb-true _ _ e)) (λ e₈.
+    either P (eqb k kind.oneOrMore) (λ e. makes-oneOrMore (eqb-true _ _ e)) (λ e₉.
+    either P (eqb k kind.choice) (λ e. makes-choice (eqb-true _ _ e)) (λ e₁₀.
+    either P (eqb k kind.group) (λ e. makes-group (eqb-true _ _ e)) (λ e₁₁.
+    either P (eqb k kind.interleave) (λ e. makes-interleave (eqb-true _ _ e)) (λ e₁₂. makes-none (no-kind k e₁ e₂ e₃ e₄ e₅ e₆ e₇ e₈ e₉ e₁₀ e₁₁ e₁₂)))))))))))))
 
 pub row-makes : (s : List ℕ) (p : ℕ) {x : Pattern} → patternOf s p ≡ x → Makes (kindOf s p) (aOf s p) (bOf s p) x
 row-makes s p e = subst (Makes (kindOf s p) (aOf s p) (bOf s p)) e (made (kindOf s p) (aOf s p) (bOf s p))
@@ -80,6 +83,9 @@ row-makes s p e = subst (Makes (kindOf s p) (aOf s p) (bOf s p)) e (made (kindOf
 module _ {k a b : ℕ} where
   pub from-except : {t q : ℕ} → Makes k a b (dataExcept t q) → (k ≡ kind.«data») × (b ≡ q) × (b ≢ kind.noRow)
   from-except (makes-except e f) = (e, refl, f)
+
+  pub from-list : {p : ℕ} → Makes k a b (list p) → (k ≡ kind.list) × (a ≡ p)
+  from-list (makes-list e) = (e, refl)
 
   pub from-oneOrMore : {p : ℕ} → Makes k a b (oneOrMore p) → (k ≡ kind.oneOrMore) × (a ≡ p)
   from-oneOrMore (makes-oneOrMore e) = (e, refl)
@@ -139,6 +145,7 @@ module _ {strings : ℕ} {s : List ℕ} (right : RowsRight strings s) where
     part-sub (operand group-second) (makes-group e) = field-b e (λ z. omega arith) refl
     part-sub (operand interleave-first) (makes-interleave e) = field-a e (λ z. omega arith) refl
     part-sub (operand interleave-second) (makes-interleave e) = field-b e (λ z. omega arith) refl
+    part-sub of-list (makes-list e) = field-a e (λ z. omega arith) refl
     part-sub of-attribute (makes-attribute e) = field-b e (λ z. omega arith) refl
     part-sub of-except (makes-except e f) = field-except e f
 

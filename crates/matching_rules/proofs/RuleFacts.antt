@@ -1,16 +1,16 @@
 -- What single rules of 9.3 grant or shut out: text, whitespace beside an element, content that is empty, the order of
--- what interleaves, repetitions that share an attribute name.
+-- what interleaves, the tokens of a list, repetitions that share an attribute name.
 use Prim.Native.Nat.{ℕ}
-use mathlib.Core.Path.{_≡_, sym, _∙_}
+use mathlib.Core.Path.{_≡_, sym, _∙_, ap}
 use mathlib.Core.Bool.{true}
-use mathlib.Core.List.{List, [], _∷_}
-use mathlib.Core.Logic.{_⊎_, inl, inr}
+use mathlib.Core.List.{List, [], _∷_, map, cons≢nil}
+use mathlib.Core.Logic.{_≢_, _⊎_, inl, inr}
 use borrow.Author.Tests.{eqb-true}
 use Rattle.schema.specs.Views.{Pattern}
 use Rattle.schema.specs.Views as pattern
 use Rattle.matching_rules.specs.Items.{Item, string, Attributes, noAttributes, Lookups}
 use Rattle.matching_rules.specs.Items as item
-use Rattle.matching_rules.specs.Rules.{Interleaves, interleaves-1, interleaves-2, interleaves-3, ws-empty, ws-string, Match, WeakMatch, text-1, text-2, oneOrMore-1, oneOrMore-2, attribute, element, data-1, weak-match-3}
+use Rattle.matching_rules.specs.Rules.{Interleaves, interleaves-1, interleaves-2, interleaves-3, ws-empty, ws-string, Match, WeakMatch, text-1, text-2, oneOrMore-1, oneOrMore-2, attribute, element, value, data-1, list, weak-match-3}
 use Rattle.tables.proofs.Booleans.{or-either}
 use Rattle.matching_rules.specs.Spans.{Paired}
 
@@ -33,6 +33,13 @@ module _ (L : Lookups) (NotMatch : List ℕ → ℕ → Type 0) where
   -- no children are the empty string to a datatype
   pub no-children : (t : ℕ) → WeakMatch L NotMatch noAttributes [] (pattern.dataAll t)
   no-children t = weak-match-3 data-1
+
+  -- a value takes one token of a list, and no token is not the empty string to it
+  value-some : {a : Attributes} {m : List Item} {t k : ℕ} → Match L NotMatch a m (pattern.value t k) → m ≢ []
+  value-some (value h) e = cons≢nil e
+
+  pub no-tokens : {a : Attributes} {m : List Item} {t k p : ℕ} → L .pattern p ≡ pattern.value t k → Match L NotMatch a m (pattern.list p) → (s : List ℕ) → m ≡ string s ∷ [] → L .split s ≢ []
+  no-tokens f (list {s = u} d) s e z = let same : u ≡ s = cc e in value-some (rw f at d) (ap (map string) (ap (L .split) same ∙ z))
 
   -- the attributes that a repeated attribute pattern takes have names of their own
   module _ (q : ℕ) {nc p : ℕ} (repeats : L .pattern q ≡ pattern.attribute nc p) (symmetric : (x y : ℕ) → L .SameName x y → L .SameName y x) where

@@ -34,9 +34,10 @@ pub record Lookups : Type 1 where
   pub isDefinition : ℕ → Bool
   pub nameClass : ℕ → ℕ
   pub content : ℕ → ℕ
-  -- strings: the text of a string; which texts are whitespace; datatypeEqual, by the number of the datatype
+  -- strings: the text of a string; which texts are whitespace; split; datatypeEqual, by the number of the datatype
   pub text : ℕ → List ℕ
   pub whitespace : List ℕ → Bool
+  pub split : List ℕ → List (List ℕ)
   pub Equal : ℕ → List ℕ → List ℕ → Type 0
   -- instance: whether the class at a schema row has the name of an instance row; whether two instance rows have one
   -- name

@@ -6,6 +6,7 @@ use mathlib.Core.List.{List, [], _∷_, map}
 use Rattle.tables.specs.Tables.{Tables}
 use Rattle.strings.specs.Strings.{textOf}
 use Rattle.datatypes.specs.Whitespace.{whitespace, stringEqual, tokenEqual}
+use Rattle.datatypes.specs.Split.{split}
 use Rattle.schema.specs.Rows as schema
 use Rattle.schema.specs.Kinds as kind
 use Rattle.schema.specs.Views.{patternOf}
@@ -35,6 +36,7 @@ module _ (J : Tables) where
     content = schema.bOf (J .schema);
     text = textOf (J .strings);
     whitespace = whitespace;
+    split = split;
     Equal = datatypeEqual;
     inClass = λ nc x. inClass (J .schema) (aOf (J .instance) x) (bOf (J .instance) x) nc;
     SameName = SameName (J .instance);

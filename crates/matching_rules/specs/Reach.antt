@@ -4,14 +4,14 @@ use Prim.Native.Nat.{ℕ}
 use mathlib.Core.Path.{_≡_}
 use mathlib.Core.Bool.{Bool, true, false, _&&_}
 use mathlib.Core.List.{List}
-use Rattle.schema.specs.Views.{Pattern, empty, notAllowed, text, dataAll, dataExcept, value, attribute, ref, oneOrMore, choice, group, interleave, noPattern}
+use Rattle.schema.specs.Views.{Pattern, empty, notAllowed, text, dataAll, dataExcept, value, list, attribute, ref, oneOrMore, choice, group, interleave, noPattern}
 use Rattle.matching_rules.specs.Items.{Item, element, string, Lookups}
 
 -- What a pattern does by itself. Whatever is asked of patterns of every kind goes by its role.
 pub data Role : Type 0 where
   -- any number of strings: text
   strings : Role
-  -- one string, as a sequence of that string alone: data and value, which have content type simple (10.3)
+  -- one string, as a sequence of that string alone: data, value and list, which have content type simple (10.3)
   oneString : Role
   -- an attribute whose name is in the class
   anAttribute : (nameClass : ℕ) → Role
@@ -29,6 +29,7 @@ roleOf text = strings
 roleOf (dataAll t) = oneString
 roleOf (dataExcept t p) = oneString
 roleOf (value t k) = oneString
+roleOf (list p) = oneString
 roleOf (attribute nc p) = anAttribute nc
 roleOf (ref d) = anElement d
 roleOf (oneOrMore p) = another
@@ -46,10 +47,11 @@ pub data Operand : ℕ → Pattern → Type 0 where
   interleave-first : {p q : ℕ} → Operand p (interleave p q)
   interleave-second : {p q : ℕ} → Operand q (interleave p q)
 
--- a pattern that stands directly below another: an operand, the pattern of an attribute, an except
+-- a pattern that stands directly below another: an operand, the pattern of an attribute or a list, an except
 pub data Subpattern : ℕ → Pattern → Type 0 where
   operand : {p : ℕ} {x : Pattern} → Operand p x → Subpattern p x
   of-attribute : {nc p : ℕ} → Subpattern p (attribute nc p)
+  of-list : {p : ℕ} → Subpattern p (list p)
   of-except : {t p : ℕ} → Subpattern p (dataExcept t p)
 
 abbrev pub shares : Role → Bool

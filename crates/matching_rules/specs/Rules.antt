@@ -3,7 +3,7 @@
 use Prim.Native.Nat.{ℕ, zero, suc}
 use mathlib.Core.Path.{_≡_}
 use mathlib.Core.Bool.{true}
-use mathlib.Core.List.{List, [], _∷_, _++_}
+use mathlib.Core.List.{List, [], _∷_, _++_, map}
 use Rattle.schema.specs.Views.{Pattern}
 use Rattle.schema.specs.Views as pattern
 use Rattle.matching_rules.specs.Items.{Item, string, Attributes, noAttributes, only, _∪_, Lookups}
@@ -59,6 +59,8 @@ module _ (L : Lookups) where
         value : {t k : ℕ} {s : List ℕ} → L .Equal t s (L .text k) → Match noAttributes (string s ∷ []) (pattern.value t k)
         data-1 : {t : ℕ} {s : List ℕ} → Match noAttributes (string s ∷ []) (pattern.dataAll t)
         data-2 : {t p : ℕ} {s : List ℕ} → NotMatch s p → Match noAttributes (string s ∷ []) (pattern.dataExcept t p)
+        -- 9.3.10: the tokens of the string, as a sequence of strings
+        list : {p : ℕ} {s : List ℕ} → Match noAttributes (map string (L .split s)) (L .pattern p) → Match noAttributes (string s ∷ []) (pattern.list p)
 
       -- a; m =~weak p (9.3.7)
       pub data WeakMatch : Attributes → List Item → Pattern → Type 0 where
