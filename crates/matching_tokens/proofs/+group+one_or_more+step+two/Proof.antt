@@ -1,0 +1,376 @@
+-- The measure of a row is above that of its parts, which is above those of smaller rows. What a token does at a row of
+-- each kind are the laws of Stepping.
+use Prim.Native.Nat.{ℕ, _+_, _*_, _<_}
+use mathlib.Core.Path.{_≡_, refl, sym, _∙_, ap, subst}
+use mathlib.Core.Bool.{_&&_, _||_}
+use native.Mathlib.Omega.{arith}
+use borrow.Fn.Kinds.{In}
+use borrow.Fn.PlainCycle.{Measures, is, falls, and}
+use denote.Ref.{now}
+use Rattle.tables.specs.Tables.{stringTable, tablesOf}
+use Rattle.schema.specs.Kinds as kind
+use Rattle.schema.specs.Rows.{kindOf, aOf, bOf}
+use Rattle.schema.specs.Views as pattern
+use Rattle.schema.proofs.field_a.Reads as field-a-reads
+use Rattle.schema.proofs.field_b.Reads as field-b-reads
+use Rattle.schema.proofs.kind.Reads as kind-reads
+use Rattle.matching_tokens.specs.MarkTable.{marked}
+use Rattle.schema.proofs.Patterns as patterns
+use Rattle.matching_tokens.proofs.Leaves.{repeat-falls, choice-falls-a, choice-falls-b, group-falls-a, group-falls-b, leaf-plain, leaf-kind}
+use Rattle.matching_tokens.proofs.Shapes.{childless}
+use Rattle.matching_tokens.proofs.Stepping.{nulls-below, stepped-empty, stepped-leaf, stepped-oneOrMore, two-stepped, stepped-choice, stepped-group}
+use Rattle.matching_tokens.proofs.group.Reads as group
+use Rattle.matching_tokens.proofs.group.Kinds as group-kinds
+use Rattle.matching_tokens.proofs.+group+one_or_more+step+two.Lts-group as group-lts
+use Rattle.matching_tokens.proofs.one_or_more.Reads as one-or-more
+use Rattle.matching_tokens.proofs.one_or_more.Kinds as one-or-more-kinds
+use Rattle.matching_tokens.proofs.+group+one_or_more+step+two.Lts-one_or_more as one-or-more-lts
+use Rattle.matching_tokens.proofs.step.Reads as step
+use Rattle.matching_tokens.proofs.step.Kinds as step-kinds
+use Rattle.matching_tokens.proofs.+group+one_or_more+step+two.Lts-step as step-lts
+use Rattle.matching_tokens.proofs.two.Reads as two
+use Rattle.matching_tokens.proofs.two.Kinds as two-kinds
+use Rattle.matching_tokens.proofs.+group+one_or_more+step+two.Lts-two as two-lts
+use Rattle.matching_tokens.proofs.goes.Reads as goes-reads
+use Rattle.matching_tokens.proofs.is_marked.Reads as is-marked-reads
+use Rattle.matching_tokens.proofs.leaf.Reads as leaf-reads
+use Rattle.matching_tokens.proofs.put.Reads as put-reads
+use Rattle.matching_tokens.proofs.+group+one_or_more+step+two.{statement}
+use Rattle.matching_tokens.proofs.+group+one_or_more+step+two.Tie.{close}
+
+abbrev μ-group : Measures 7 group-kinds.ps ℕ
+μ-group κs a = 3 * a .1 .1 .1 .1 .1 .0 + 1
+
+abbrev μ-one-or-more : Measures 7 one-or-more-kinds.ps ℕ
+μ-one-or-more κs a = 3 * a .1 .1 .1 .1 .1 .0 + 1
+
+abbrev μ-step : Measures 7 step-kinds.ps ℕ
+μ-step κs a = 3 * a .1 .1 .1 .1 .1 .0 + 2
+
+abbrev μ-two : Measures 7 two-kinds.ps ℕ
+μ-two κs a = 3 * a .1 .1 .1 .1 .1 .0
+
+module _ (t : ℕ) where
+  abbrev group-at : In 7 group-kinds.ps
+  group-at = and 7 group-kinds.ps (is 7 group-kinds.ps μ-group t) group.Pre
+
+  abbrev group-below : In 7 group-kinds.ps
+  group-below = and 7 group-kinds.ps (falls 7 group-kinds.ps _<_ μ-group t) group.Pre
+
+  abbrev one-or-more-at : In 7 one-or-more-kinds.ps
+  one-or-more-at = and 7 one-or-more-kinds.ps (is 7 one-or-more-kinds.ps μ-one-or-more t) one-or-more.Pre
+
+  abbrev one-or-more-below : In 7 one-or-more-kinds.ps
+  one-or-more-below = and 7 one-or-more-kinds.ps (falls 7 one-or-more-kinds.ps _<_ μ-one-or-more t) one-or-more.Pre
+
+  abbrev step-at : In 7 step-kinds.ps
+  step-at = and 7 step-kinds.ps (is 7 step-kinds.ps μ-step t) step.Pre
+
+  abbrev step-below : In 7 step-kinds.ps
+  step-below = and 7 step-kinds.ps (falls 7 step-kinds.ps _<_ μ-step t) step.Pre
+
+  abbrev two-at : In 7 two-kinds.ps
+  two-at = and 7 two-kinds.ps (is 7 two-kinds.ps μ-two t) two.Pre
+
+  abbrev two-below : In 7 two-kinds.ps
+  two-below = and 7 two-kinds.ps (falls 7 two-kinds.ps _<_ μ-two t) two.Pre
+
+  abbrev group-calls : group-lts.Claims
+  group-calls = (field-a-reads.Asked, field-a-reads.Learnt, is-marked-reads.Asked, is-marked-reads.Learnt, goes-reads.Asked, goes-reads.Learnt, field-b-reads.Asked, field-b-reads.Learnt, two-below, two.Post)
+
+  abbrev one-or-more-calls : one-or-more-lts.Claims
+  one-or-more-calls = (field-a-reads.Asked, field-a-reads.Learnt, is-marked-reads.Asked, is-marked-reads.Learnt, goes-reads.Asked, goes-reads.Learnt, step-below, step.Post, put-reads.Asked, put-reads.Learnt)
+
+  abbrev step-calls : step-lts.Claims
+  step-calls = (kind-reads.Asked, kind-reads.Learnt, one-or-more-below, one-or-more.Post, two-below, two.Post, group-below, group.Post, leaf-reads.Asked, leaf-reads.Learnt)
+
+  abbrev two-calls : two-lts.Claims
+  two-calls = (field-a-reads.Asked, field-a-reads.Learnt, field-b-reads.Asked, field-b-reads.Learnt, step-below, step.Post, goes-reads.Asked, goes-reads.Learnt, put-reads.Asked, put-reads.Learnt)
+
+  group-field-a-requires : group-lts.Need-field-a-requires group-calls group-at group.Post
+  group-field-a-requires c κs = tt
+
+  group-is-marked-requires : group-lts.Need-is-marked-requires group-calls group-at group.Post
+  group-is-marked-requires c κs = tt
+
+  group-is-marked-requires-2 : group-lts.Need-is-marked-requires-2 group-calls group-at group.Post
+  group-is-marked-requires-2 c κs = tt
+
+  group-goes-requires : group-lts.Need-goes-requires group-calls group-at group.Post
+  group-goes-requires c κs = tt
+
+  group-field-b-requires : group-lts.Need-field-b-requires group-calls group-at group.Post
+  group-field-b-requires c κs = tt
+
+  group-is-marked-requires-3 : group-lts.Need-is-marked-requires-3 group-calls group-at group.Post
+  group-is-marked-requires-3 c κs = tt
+
+  group-two-requires : group-lts.Need-two-requires group-calls group-at group.Post
+  group-two-requires c κs =
+      let at = c .before .before .before .before .before .before .before .before .before .before .before .before .before .before .before in
+      let a = at .args in
+      let T = stringTable (now (a .bytes)) (now (a .ends)) in
+      let s = now (a .schema) in
+      let passes = at .pre .1 .0 .passes in
+      (omega arith, (at .pre .1 .0, at .pre .1 .1, group-falls-a T s passes (a .p) (at .pre .1 .2), group-falls-b T s passes (a .p) (at .pre .1 .2)))
+
+  group-same-length : group-lts.Need-same-length group-calls group-at group.Post
+  group-same-length c = omega arith
+
+  group-returns : group-lts.Need-returns group-calls group-at group.Post
+  group-returns c =
+      let at = c .before .before .before .before .before .before .before .before .before .before .before .before .before .before .before .before .before .before in
+      let a = at .args in
+      let T = stringTable (now (a .bytes)) (now (a .ends)) in
+      let s = now (a .schema) in
+      let d = c .before .before .two in
+      let k = at .pre .1 .2 in
+      let passes = at .pre .1 .0 .passes in
+      let x = c .before .before .before .before .before .before .before .before .before .before .field-a .ensures in
+      let g = c .before .before .before .before .before .before .goes in
+      let z = c .before .before .before .before .is-marked3 in
+      let entered : g .result ≡ (a .enter && marked (now (a .nothing)) (aOf s (a .p)) || marked (now (a .marks)) (aOf s (a .p))) =
+      g .ensures ∙ rw (c .before .before .before .before .before .before .before .before .before .is-marked .ensures ∙ ap (marked (now (a .nothing))) x, c .before .before .before .before .before .before .before .is-marked2 .ensures ∙ ap (marked (now (a .marks))) x) refl in
+      let ended : z .result ≡ marked (now (a .nothing)) (bOf s (a .p)) = z .ensures ∙ ap (marked (now (a .nothing))) (c .before .before .before .before .before .field-b .ensures) in
+      stepped-group T s (a .p) (a .enter) (now (a .token)) (now (a .marks)) (d .last .1 .1 .1 .1 .1 .1 .1 .1 .1 .1 .0) (d .result) (now (a .nothing)) (at .pre .1 .1)
+      (group-falls-a T s passes (a .p) k) (group-falls-b T s passes (a .p) k) (g .result) (z .result) entered ended (d .ensures) (patterns.group-at s (a .p) k)
+
+  one-or-more-field-a-requires : one-or-more-lts.Need-field-a-requires one-or-more-calls one-or-more-at one-or-more.Post
+  one-or-more-field-a-requires c κs = tt
+
+  one-or-more-is-marked-requires : one-or-more-lts.Need-is-marked-requires one-or-more-calls one-or-more-at one-or-more.Post
+  one-or-more-is-marked-requires c κs = tt
+
+  one-or-more-goes-requires : one-or-more-lts.Need-goes-requires one-or-more-calls one-or-more-at one-or-more.Post
+  one-or-more-goes-requires c κs = tt
+
+  one-or-more-step-requires : one-or-more-lts.Need-step-requires one-or-more-calls one-or-more-at one-or-more.Post
+  one-or-more-step-requires c κs =
+      let at = c .before .before .before .before .before .before .before .before .before .before .before .before in
+      let a = at .args in
+      let T = stringTable (now (a .bytes)) (now (a .ends)) in
+      let s = now (a .schema) in
+      let x = c .before .before .before .before .field-a .ensures in
+      let l = repeat-falls T s (at .pre .1 .0 .passes) (a .p) (at .pre .1 .2) in
+      (omega (arith, x, l), (at .pre .1 .0, nulls-below T s (now (a .nothing)) (at .pre .1 .1) (omega (arith, x, l))))
+
+  one-or-more-put-requires : one-or-more-lts.Need-put-requires one-or-more-calls one-or-more-at one-or-more.Post
+  one-or-more-put-requires c κs = tt
+
+  one-or-more-same-length : one-or-more-lts.Need-same-length one-or-more-calls one-or-more-at one-or-more.Post
+  one-or-more-same-length c = omega arith
+
+  one-or-more-returns : one-or-more-lts.Need-returns one-or-more-calls one-or-more-at one-or-more.Post
+  one-or-more-returns c =
+      let at = c .before .before .before .before .before .before .before .before .before .before .before .before .before .before .before .before .before .before .before in
+      let a = at .args in
+      let T = stringTable (now (a .bytes)) (now (a .ends)) in
+      let s = now (a .schema) in
+      let x = c .before .before .before .before .before .before .before .before .before .before .before .field-a in
+      let g = c .before .before .before .before .before .before .before .before .goes in
+      let d = c .before .before .before .before .before .before .step in
+      let l = repeat-falls T s (at .pre .1 .0 .passes) (a .p) (at .pre .1 .2) in
+      stepped-oneOrMore T s (a .p) (a .enter) (now (a .token)) (x .result) (g .result) (now (a .marks)) (d .last .1 .1 .1 .1 .1 .1 .1 .1 .0) (c .before .before .put .last .0) (d .result)
+      (g .ensures ∙ rw (c .before .before .before .before .before .before .before .before .before .is-marked .ensures) refl) (d .ensures) (c .before .before .put .ensures)
+      (patterns.oneOrMore-at s (a .p) (at .pre .1 .2) ∙ ap pattern.oneOrMore (sym (x .ensures))) (subst (λ (n : ℕ). n < a .p) (sym (x .ensures)) l)
+
+  step-kind-requires : step-lts.Need-kind-requires step-calls step-at step.Post
+  step-kind-requires c κs = tt
+
+  step-one-or-more-requires : step-lts.Need-one-or-more-requires step-calls step-at step.Post
+  step-one-or-more-requires c κs =
+      let at = c .before .before .before .before .before .before .before .before .before .before in
+      (omega arith, (at .pre .1 .0, at .pre .1 .1, sym (c .before .before .kind .ensures) ∙ c .before .match .keys1))
+
+  step-two-requires : step-lts.Need-two-requires step-calls step-at step.Post
+  step-two-requires c κs =
+      let at = c .before .before .before .before .before .before .before .before .before .before in
+      let a = at .args in
+      let T = stringTable (now (a .bytes)) (now (a .ends)) in
+      let s = now (a .schema) in
+      let k : kindOf s (a .p) ≡ kind.choice = sym (c .before .before .kind .ensures) ∙ c .before .match .keys2 in
+      let passes = at .pre .1 .0 .passes in
+      (omega arith, (at .pre .1 .0, at .pre .1 .1, choice-falls-a T s passes (a .p) k, choice-falls-b T s passes (a .p) k))
+
+  step-group-requires : step-lts.Need-group-requires step-calls step-at step.Post
+  step-group-requires c κs =
+      let at = c .before .before .before .before .before .before .before .before .before .before in
+      (omega arith, (at .pre .1 .0, at .pre .1 .1, sym (c .before .before .kind .ensures) ∙ c .before .match .keys3))
+
+  step-leaf-requires : step-lts.Need-leaf-requires step-calls step-at step.Post
+  step-leaf-requires c κs =
+      let at = c .before .before .before .before .before .before .before .before .before .before .before .before in
+      let a = at .args in
+      let T = stringTable (now (a .bytes)) (now (a .ends)) in
+      let s = now (a .schema) in
+      let e = c .before .before .before .before .kind .ensures in
+      (at .pre .1 .0, leaf-plain T s (at .pre .1 .0 .passes) (a .p) (omega (arith, e)) (omega (arith, e)))
+
+  step-same-length : step-lts.Need-same-length step-calls step-at step.Post
+  step-same-length c = omega arith
+
+  step-returns : step-lts.Need-returns step-calls step-at step.Post
+  step-returns c = c .before .before .one-or-more .ensures
+
+  step-same-length-2 : step-lts.Need-same-length-2 step-calls step-at step.Post
+  step-same-length-2 c = omega arith
+
+  step-returns-2 : step-lts.Need-returns-2 step-calls step-at step.Post
+  step-returns-2 c =
+      let at = c .before .before .before .before .before .before .before .before .before .before .before .before .before in
+      let a = at .args in
+      let T = stringTable (now (a .bytes)) (now (a .ends)) in
+      let s = now (a .schema) in
+      let d = c .before .before .two in
+      stepped-choice T s (a .p) (a .enter) (now (a .token)) (now (a .marks)) (d .last .1 .1 .1 .1 .1 .1 .1 .1 .1 .1 .0) (d .result) (d .ensures) (patterns.choice-at s (a .p) (sym (c .before .before .before .before .before .kind .ensures) ∙ c .before .before .before .before .match .keys2))
+
+  step-same-length-3 : step-lts.Need-same-length-3 step-calls step-at step.Post
+  step-same-length-3 c = omega arith
+
+  step-returns-3 : step-lts.Need-returns-3 step-calls step-at step.Post
+  step-returns-3 c = c .before .before .group .ensures
+
+  step-same-length-4 : step-lts.Need-same-length-4 step-calls step-at step.Post
+  step-same-length-4 c = omega arith
+
+  step-returns-4 : step-lts.Need-returns-4 step-calls step-at step.Post
+  step-returns-4 c =
+      let at = c .before .before .before .before .before .before .before .before .before .before .before .before .before .before .before in
+      let a = at .args in
+      let T = stringTable (now (a .bytes)) (now (a .ends)) in
+      let s = now (a .schema) in
+      let e = c .before .before .before .before .before .before .before .kind .ensures in
+      stepped-leaf T s (a .p) (a .enter) (now (a .token)) (leaf-kind s (a .p) (omega (arith, e)) (omega (arith, e))) (c .before .before .leaf .ensures)
+
+  step-returns-5 : step-lts.Need-returns-5 step-calls step-at step.Post
+  step-returns-5 c =
+      let at = c .before .before .before .before .before .before .before .before .before .before in
+      let a = at .args in
+      let T = stringTable (now (a .bytes)) (now (a .ends)) in
+      let s = now (a .schema) in
+      let e = c .before .before .kind .ensures in
+      let rest = c .before .match .rest in
+      stepped-empty T s (a .p) (a .enter) (now (a .token)) (now (a .marks))
+      (λ i. childless (tablesOf T s i) (a .p) (λ z. omega (arith, e)) (λ z. omega (arith, e)) (λ z. rest .0 .0 .1 (e ∙ z)) (λ z. rest .0 .1 (e ∙ z)) (λ z. rest .1 (e ∙ z)))
+
+  step-returns-6 : step-lts.Need-returns-6 step-calls step-at step.Post
+  step-returns-6 c =
+      let at = c .before .before .before .before .before .before .before .before .before .before .before in
+      let a = at .args in
+      let T = stringTable (now (a .bytes)) (now (a .ends)) in
+      let s = now (a .schema) in
+      let e = c .before .before .before .kind .ensures in
+      let rest = c .before .before .match .rest in
+      stepped-empty T s (a .p) (a .enter) (now (a .token)) (now (a .marks))
+      (λ i. childless (tablesOf T s i) (a .p) (λ z. omega (arith, e)) (λ z. omega (arith, e)) (λ z. rest .0 .0 .1 (e ∙ z)) (λ z. rest .0 .1 (e ∙ z)) (λ z. rest .1 (e ∙ z)))
+
+  two-field-a-requires : two-lts.Need-field-a-requires two-calls two-at two.Post
+  two-field-a-requires c κs = tt
+
+  two-field-b-requires : two-lts.Need-field-b-requires two-calls two-at two.Post
+  two-field-b-requires c κs = tt
+
+  two-step-requires : two-lts.Need-step-requires two-calls two-at two.Post
+  two-step-requires c κs =
+      let at = c .before .before .before .before .before .before .before .before .before .before in
+      let a = at .args in
+      let T = stringTable (now (a .bytes)) (now (a .ends)) in
+      let s = now (a .schema) in
+      let x = c .before .before .field-a .ensures in
+      (omega (arith, x, at .pre .1 .2), (at .pre .1 .0, nulls-below T s (now (a .nothing)) (at .pre .1 .1) (omega (arith, x, at .pre .1 .2))))
+
+  two-step-requires-2 : two-lts.Need-step-requires-2 two-calls two-at two.Post
+  two-step-requires-2 c κs =
+      let at = c .before .before .before .before .before .before .before .before .before .before .before .before .before .before in
+      let a = at .args in
+      let T = stringTable (now (a .bytes)) (now (a .ends)) in
+      let s = now (a .schema) in
+      let x = c .before .before .before .before .before .field-b .ensures in
+      (omega (arith, x, at .pre .1 .3), (at .pre .1 .0, nulls-below T s (now (a .nothing)) (at .pre .1 .1) (omega (arith, x, at .pre .1 .3))))
+
+  two-goes-requires : two-lts.Need-goes-requires two-calls two-at two.Post
+  two-goes-requires c κs = tt
+
+  two-put-requires : two-lts.Need-put-requires two-calls two-at two.Post
+  two-put-requires c κs = tt
+
+  two-same-length : two-lts.Need-same-length two-calls two-at two.Post
+  two-same-length c = omega arith
+
+  two-returns : two-lts.Need-returns two-calls two-at two.Post
+  two-returns c =
+      let at = c .before .before .before .before .before .before .before .before .before .before .before .before .before .before .before .before .before .before .before .before .before .before in
+      let a = at .args in
+      let T = stringTable (now (a .bytes)) (now (a .ends)) in
+      let s = now (a .schema) in
+      let x = c .before .before .before .before .before .before .before .before .before .before .before .before .before .before .field-a in
+      let y = c .before .before .before .before .before .before .before .before .before .before .before .before .before .field-b in
+      let d = c .before .before .before .before .before .before .before .before .before .before .before .step in
+      let e = c .before .before .before .before .before .before .before .step2 in
+      let g = c .before .before .before .before .goes in
+      two-stepped T s (a .p) (a .enter) (now (a .token)) (x .result) (y .result) (a .onward) (a .last) (d .result) (e .result) (g .result) (now (a .marks))
+      (d .last .1 .1 .1 .1 .1 .1 .1 .1 .0) (e .last .1 .1 .1 .1 .1 .1 .1 .1 .0) (c .before .before .put .last .0)
+      (x .ensures) (y .ensures) (at .pre .1 .2) (at .pre .1 .3) (d .ensures) (e .ensures) (g .ensures) (c .before .before .put .ensures)
+
+pub +group+one-or-more+step+two-spec : {M : Type 1} → statement M
++group+one-or-more+step+two-spec =
+    close
+    μ-group
+    μ-one-or-more
+    μ-step
+    μ-two
+    (λ t. group-lts.spec
+    (group-calls t)
+    (group-at t)
+    group.Post
+    (group-field-a-requires t)
+    (group-is-marked-requires t)
+    (group-is-marked-requires-2 t)
+    (group-goes-requires t)
+    (group-field-b-requires t)
+    (group-is-marked-requires-3 t)
+    (group-two-requires t)
+    (group-same-length t)
+    (group-returns t))
+    (λ t. one-or-more-lts.spec
+    (one-or-more-calls t)
+    (one-or-more-at t)
+    one-or-more.Post
+    (one-or-more-field-a-requires t)
+    (one-or-more-is-marked-requires t)
+    (one-or-more-goes-requires t)
+    (one-or-more-step-requires t)
+    (one-or-more-put-requires t)
+    (one-or-more-same-length t)
+    (one-or-more-returns t))
+    (λ t. step-lts.spec
+    (step-calls t)
+    (step-at t)
+    step.Post
+    (step-kind-requires t)
+    (step-one-or-more-requires t)
+    (step-two-requires t)
+    (step-group-requires t)
+    (step-leaf-requires t)
+    (step-same-length t)
+    (step-returns t)
+    (step-same-length-2 t)
+    (step-returns-2 t)
+    (step-same-length-3 t)
+    (step-returns-3 t)
+    (step-same-length-4 t)
+    (step-returns-4 t)
+    (step-returns-5 t)
+    (step-returns-6 t))
+    (λ t. two-lts.spec
+    (two-calls t)
+    (two-at t)
+    two.Post
+    (two-field-a-requires t)
+    (two-field-b-requires t)
+    (two-step-requires t)
+    (two-step-requires-2 t)
+    (two-goes-requires t)
+    (two-put-requires t)
+    (two-same-length t)
+    (two-returns t))

@@ -1,0 +1,12 @@
+pub mod Accepted
+pub mod Leaves
+pub mod MarkTables
+pub mod Parts
+pub mod Places
+pub mod Plain
+pub mod Shapes
+pub mod Stepping
+pub mod Stretches
+pub mod TokenRules
+pub mod Trees
+pub mod Walking

@@ -1,0 +1,3 @@
+pub mod Marked
+pub mod MarkTable
+pub mod Tokens
