@@ -3,8 +3,8 @@ use Prim.Native.Nat.{ℕ, suc, _+_, _-_, _*_, _^_, _≤_, _<_}
 use mathlib.Core.Path.{_≡_, refl, sym, ap, _∙_, subst}
 use mathlib.Core.Bool.{Bool, true, false, true≢false}
 use mathlib.Core.List.{List}
-use mathlib.Core.Logic.{_≢_, _⊎_, inl, inr, ⊎-elim}
-use native.Mathlib.Nat.{eq-or-lt-of-le}
+use mathlib.Core.Logic.{_≢_, _⊎_, inl, inr}
+use native.Mathlib.Decide.{ℕ-discrete}
 use native.Mathlib.Omega.{arith}
 use lib.Bits.{bitAnd}
 use lib.Dec.{leb, eqb}
@@ -14,7 +14,7 @@ use borrow.Rule.Slice.PartMut.{putMid}
 use Rattle.schema.specs.Kinds as kind
 use Rattle.schema.specs.Relations.{connective}
 use Rattle.schema.specs.Rows.{kindOf, aOf, bOf}
-use Rattle.schema.proofs.Fields.{is-data, is-value}
+use Rattle.schema.proofs.Fields.{is-data, is-value, is-list}
 use Rattle.schema.specs.Views.{Pattern, notAllowed, noPattern, patternBy, patternOf}
 use Rattle.relations.specs.Relations.{Or, And, Then}
 use Rattle.relations.specs.Words.{WordsRelate, Is, Empty, Gap, Single, Up, front, next}
@@ -23,7 +23,7 @@ use Rattle.sets.proofs.Members.{and-has, none-has}
 use Rattle.tables.proofs.Booleans.{and-left, and-right, is-false}
 use Rattle.matching_rules.proofs.Passing.{restricted}
 use Rattle.matching_rules.specs.Reach.{oneString, roleOf, Operand, Subpattern, operand, repeated, choice-first, choice-second, group-first, group-second, interleave-first, interleave-second}
-use Rattle.matching_rules.proofs.RowPatterns.{Makes, row-makes, makes-empty, makes-notAllowed, makes-text, makes-data, makes-except, makes-value, makes-attribute, makes-ref, makes-oneOrMore, makes-choice, makes-group, makes-interleave, makes-none}
+use Rattle.matching_rules.proofs.RowPatterns.{Makes, row-makes, makes-empty, makes-notAllowed, makes-text, makes-data, makes-except, makes-value, makes-list, makes-attribute, makes-ref, makes-oneOrMore, makes-choice, makes-group, makes-interleave, makes-none}
 use Rattle.matching.specs.Setting.{Setting, tablesIn, Asked, Covered, Relatable, HoldsRelated}
 use Rattle.matching.specs.Parts.{Where, OneIn, Repetition, HoldsLeaf, SharedOut, Operands}
 use Rattle.matching.proofs.Shares.{asked-part, operand-covered}
@@ -33,26 +33,28 @@ use Rattle.matching.proofs.TwoOperands.{related-choice, related-group, 
 use Rattle.matching.proofs.Repetitions.{related-oneOrMore}
 
 -- the kinds that match nothing
-nothing-made : {k a b : ℕ} {x : Pattern} → Makes k a b x → k ≢ kind.empty → k ≢ kind.text → k ≢ kind.«data» → k ≢ kind.value → k ≢ kind.ref → k ≢ kind.attribute → connective k ≡ false → (x ≡ notAllowed) ⊎ (x ≡ noPattern)
-nothing-made (makes-empty e) n₁ n₃ n₄ n₅ n₈ n₇ c = absurd (n₁ e)
-nothing-made (makes-notAllowed e) n₁ n₃ n₄ n₅ n₈ n₇ c = inl refl
-nothing-made (makes-text e) n₁ n₃ n₄ n₅ n₈ n₇ c = absurd (n₃ e)
-nothing-made (makes-data e f) n₁ n₃ n₄ n₅ n₈ n₇ c = absurd (n₄ e)
-nothing-made (makes-except e f) n₁ n₃ n₄ n₅ n₈ n₇ c = absurd (n₄ e)
-nothing-made (makes-value e) n₁ n₃ n₄ n₅ n₈ n₇ c = absurd (n₅ e)
-nothing-made (makes-attribute e) n₁ n₃ n₄ n₅ n₈ n₇ c = absurd (n₇ e)
-nothing-made (makes-ref e) n₁ n₃ n₄ n₅ n₈ n₇ c = absurd (n₈ e)
-nothing-made (makes-oneOrMore e) n₁ n₃ n₄ n₅ n₈ n₇ c = absurd (true≢false (rw e at c))
-nothing-made (makes-choice e) n₁ n₃ n₄ n₅ n₈ n₇ c = absurd (true≢false (rw e at c))
-nothing-made (makes-group e) n₁ n₃ n₄ n₅ n₈ n₇ c = absurd (true≢false (rw e at c))
-nothing-made (makes-interleave e) n₁ n₃ n₄ n₅ n₈ n₇ c = absurd (true≢false (rw e at c))
-nothing-made (makes-none n) n₁ n₃ n₄ n₅ n₈ n₇ c = inr refl
+nothing-made : {k a b : ℕ} {x : Pattern} → Makes k a b x → k ≢ kind.empty → k ≢ kind.text → k ≢ kind.«data» → k ≢ kind.value → k ≢ kind.list → k ≢ kind.ref → k ≢ kind.attribute → connective k ≡ false → (x ≡ notAllowed) ⊎ (x ≡ noPattern)
+nothing-made (makes-empty e) n₁ n₃ n₄ n₅ n₆ n₈ n₇ c = absurd (n₁ e)
+nothing-made (makes-notAllowed e) n₁ n₃ n₄ n₅ n₆ n₈ n₇ c = inl refl
+nothing-made (makes-text e) n₁ n₃ n₄ n₅ n₆ n₈ n₇ c = absurd (n₃ e)
+nothing-made (makes-data e f) n₁ n₃ n₄ n₅ n₆ n₈ n₇ c = absurd (n₄ e)
+nothing-made (makes-except e f) n₁ n₃ n₄ n₅ n₆ n₈ n₇ c = absurd (n₄ e)
+nothing-made (makes-value e) n₁ n₃ n₄ n₅ n₆ n₈ n₇ c = absurd (n₅ e)
+nothing-made (makes-list e) n₁ n₃ n₄ n₅ n₆ n₈ n₇ c = absurd (n₆ e)
+nothing-made (makes-attribute e) n₁ n₃ n₄ n₅ n₆ n₈ n₇ c = absurd (n₇ e)
+nothing-made (makes-ref e) n₁ n₃ n₄ n₅ n₆ n₈ n₇ c = absurd (n₈ e)
+nothing-made (makes-oneOrMore e) n₁ n₃ n₄ n₅ n₆ n₈ n₇ c = absurd (true≢false (rw e at c))
+nothing-made (makes-choice e) n₁ n₃ n₄ n₅ n₆ n₈ n₇ c = absurd (true≢false (rw e at c))
+nothing-made (makes-group e) n₁ n₃ n₄ n₅ n₆ n₈ n₇ c = absurd (true≢false (rw e at c))
+nothing-made (makes-interleave e) n₁ n₃ n₄ n₅ n₆ n₈ n₇ c = absurd (true≢false (rw e at c))
+nothing-made (makes-none n) n₁ n₃ n₄ n₅ n₆ n₈ n₇ c = inr refl
 
 -- the kinds of patterns of one string
-string-role : {k a b : ℕ} {x : Pattern} → Makes k a b x → kind.«data» ≤ k → k < suc kind.value → roleOf x ≡ oneString
+string-role : {k a b : ℕ} {x : Pattern} → Makes k a b x → kind.«data» ≤ k → k < suc kind.list → roleOf x ≡ oneString
 string-role (makes-data e f) l u = refl
 string-role (makes-except e f) l u = refl
 string-role (makes-value e) l u = refl
+string-role (makes-list e) l u = refl
 string-role (makes-empty e) l u = absurd (omega arith)
 string-role (makes-notAllowed e) l u = absurd (omega arith)
 string-role (makes-text e) l u = absurd (omega arith)
@@ -62,7 +64,12 @@ string-role (makes-oneOrMore e) l u = absurd (omega arith)
 string-role (makes-choice e) l u = absurd (omega arith)
 string-role (makes-group e) l u = absurd (omega arith)
 string-role (makes-interleave e) l u = absurd (omega arith)
-string-role {k} (makes-none n) l u = absurd (⊎-elim (λ e. n (is-data (sym e))) (λ h. n (is-value (omega arith))) (eq-or-lt-of-le l))
+string-role {k} (makes-none n) l u = absurd (go (ℕ-discrete k kind.«data») (ℕ-discrete k kind.value))
+  where
+    go : Dec (k ≡ kind.«data») → Dec (k ≡ kind.value) → ⊥
+    go (yes e) d = n (is-data e)
+    go (no f) (yes e) = n (is-value e)
+    go (no f) (no g) = n (is-list (omega arith))
 
 module _ (s : List ℕ) (p : ℕ) where
   -- the pattern of a row from its kind
@@ -76,7 +83,7 @@ module _ (s : List ℕ) (p : ℕ) where
     unfolding patternBy
     answers-empty e is c named taken single S asked covered = related-empty S m asked covered w (by-kind (sym is-kind ∙ e)) is
 
-    pub answers-text : k < kind.notAllowed ^ 64 → mark < 2 ^ 64 → κ ≡ kind.text → Is w (Where (a ≡ 0) (Gap m (bitAnd k (2 ^ 64 - 1 - mark)))) → HoldsLeaf s marks m a k p w
+    pub answers-text : k < 2 ^ 64 → mark < 2 ^ 64 → κ ≡ kind.text → Is w (Where (a ≡ 0) (Gap m (bitAnd k (2 ^ 64 - 1 - mark)))) → HoldsLeaf s marks m a k p w
     unfolding patternBy
     answers-text hk hm e is c named taken single S asked covered =
         related-text S m asked covered w hk (subst (λ (n : ℕ). n < 2 ^ 64) is-mark hm) (by-kind (sym is-kind ∙ e)) (subst (λ (n : ℕ). Is w (Where (a ≡ 0) (Gap m (bitAnd k (2 ^ 64 - 1 - n))))) is-mark is)
@@ -85,8 +92,8 @@ module _ (s : List ℕ) (p : ℕ) where
       marked : Is w (Where (a ≡ 0) (Single m k (getD marks p 0)))
       marked = subst (λ (n : ℕ). Is w (Where (a ≡ 0) (Single m k n))) is-mark is
 
-      -- data and value
-      answers-string : kind.«data» ≤ κ → κ < suc kind.value → HoldsLeaf s marks m a k p w
+      -- data, value and list
+      answers-string : kind.«data» ≤ κ → κ < suc kind.list → HoldsLeaf s marks m a k p w
       answers-string l u c named taken single S asked covered =
           related-string S m asked covered w (string-role (subst (λ (n : ℕ). Makes n (aOf s p) (bOf s p) (patternOf s p)) (sym is-kind) (row-makes s p refl)) l u) marked
 
@@ -94,8 +101,8 @@ module _ (s : List ℕ) (p : ℕ) where
       unfolding patternBy
       answers-ref e c named taken single S asked covered = related-ref S m asked covered w (by-kind (sym is-kind ∙ e)) marked
 
-      -- data, value and ref take one item
-      pub answers-item : (κ ≡ kind.ref) ⊎ ((kind.«data» ≤ κ) × (κ < suc kind.value)) → HoldsLeaf s marks m a k p w
+      -- data, value, list and ref take one item
+      pub answers-item : (κ ≡ kind.ref) ⊎ ((kind.«data» ≤ κ) × (κ < suc kind.list)) → HoldsLeaf s marks m a k p w
       answers-item (inl e) = answers-ref e
       answers-item (inr (l, u)) = answers-string l u
 
@@ -104,9 +111,9 @@ module _ (s : List ℕ) (p : ℕ) where
     answers-attribute e is c named taken single S asked covered =
         related-attribute S m asked covered w (by-kind (sym is-kind ∙ e)) (subst (λ (n : ℕ). Is w (Where (OneIn a n) (Gap m k))) is-mark is)
 
-    pub answers-nothing : κ ≢ kind.empty → κ ≢ kind.text → κ ≢ kind.«data» → κ ≢ kind.value → κ ≢ kind.ref → κ ≢ kind.attribute → Is w Empty → HoldsLeaf s marks m a k p w
-    answers-nothing n₁ n₃ n₄ n₅ n₈ n₇ is c named taken single S asked covered =
-        related-nothing S m asked covered w (nothing-made (subst (λ (n : ℕ). Makes n (aOf s p) (bOf s p) (patternOf s p)) (sym is-kind) (row-makes s p refl)) n₁ n₃ n₄ n₅ n₈ n₇ (subst (λ (n : ℕ). connective n ≡ false) (sym is-kind) c)) is
+    pub answers-nothing : κ ≢ kind.empty → κ ≢ kind.text → κ ≢ kind.«data» → κ ≢ kind.value → κ ≢ kind.list → κ ≢ kind.ref → κ ≢ kind.attribute → Is w Empty → HoldsLeaf s marks m a k p w
+    answers-nothing n₁ n₃ n₄ n₅ n₆ n₈ n₇ is c named taken single S asked covered =
+        related-nothing S m asked covered w (nothing-made (subst (λ (n : ℕ). Makes n (aOf s p) (bOf s p) (patternOf s p)) (sym is-kind) (row-makes s p refl)) n₁ n₃ n₄ n₅ n₆ n₈ n₇ (subst (λ (n : ℕ). connective n ≡ false) (sym is-kind) c)) is
 
   -- ---- a row with operands
 
@@ -148,7 +155,7 @@ module _ (s : List ℕ) (p : ℕ) where
           let y = both .second S (asked-part S asked (λ x h. and-has a (2 ^ 64 - 1 - n) x h .0) (λ x h. h)) u₂ in
           related-group S m asked p (aOf s p) (bOf s p) u₁ ha (rw is-named at hn) (by-kind e) (rw is-named at x) (rw is-named at y) is
 
-      pub answers-interleave : {t : ℕ} → k < kind.notAllowed ^ 64 → t < 2 ^ 64 → t ≡ getD taken q 0 → kindOf s p ≡ kind.interleave
+      pub answers-interleave : {t : ℕ} → k < 2 ^ 64 → t < 2 ^ 64 → t ≡ getD taken q 0 → kindOf s p ≡ kind.interleave
           → Operands s marks named taken single m p (bitAnd a n) (bitAnd k t) (bitAnd a (2 ^ 64 - 1 - n)) (bitAnd k (2 ^ 64 - 1 - t)) v → Is w (And (WordsRelate (front m v)) (WordsRelate (next m v)))
           → HoldsRelated s marks named taken single m a k p w
       unfolding patternBy

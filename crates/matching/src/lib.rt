@@ -56,7 +56,7 @@ fn leaf(schema: &[u32], marks: &[u64], m: u32, a: u64, k: u64, p: u32, work: &mu
     match kind {
         schema::EMPTY => no_items(m, a, k, work),
         schema::TEXT => no_items(m, a, k & !mark, work),
-        schema::DATA | schema::VALUE | schema::REF => one_item(m, a, k, mark, work),
+        schema::DATA | schema::VALUE | schema::LIST | schema::REF => one_item(m, a, k, mark, work),
         schema::ATTRIBUTE => one_attribute(m, a, mark, k, work),
         _ => relations::clear(m, work),
     }

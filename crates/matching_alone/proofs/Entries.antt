@@ -5,26 +5,27 @@ use mathlib.Core.List.{List, [], _∷_, nil≢cons, cons≢nil}
 use mathlib.Core.Logic.{_⊎_, inl, ⊎-map, ⊎-elim, _↔_, _≢_, Iff·trans, Iff·symm}
 use native.Mathlib.Decide.{ℕ-discrete}
 use native.Mathlib.Omega.{arith}
-use borrow.Author.Tests.{eq-eqb, ne-eqb}
 use lib.ListN.{length, getD}
 use Rattle.tables.specs.Tables.{StringTable, tablesOf}
 use Rattle.strings.specs.Strings.{textOf, schemaStrings, instanceStrings}
 use Rattle.datatypes.specs.Whitespace.{tokenEqual}
 use Rattle.schema.specs.Kinds as kind
 use Rattle.schema.specs.Rows.{kindOf, aOf, bOf}
-use Rattle.schema.specs.Views.{Pattern, patternBy, patternOf}
+use Rattle.schema.specs.Views.{Pattern, patternOf}
 use Rattle.schema.specs.Views as pattern
+use Rattle.schema.proofs.Patterns.{empty-at, text-at, data-at, except-at, value-at, list-at, oneOrMore-at, choice-at, group-at, interleave-at}
 use Rattle.schema_restrictions.specs.Schema.{SchemaPasses}
 use Rattle.matching_rules.specs.Items.{string, noAttributes, Lookups}
 use Rattle.matching_rules.specs.Rules.{Match, NotMatchBy, text-1, empty, text-2}
 use Rattle.matching_rules.specs.Job.{lookups, datatypeEqual}
 use Rattle.matching_rules.proofs.Inversion.{One, stepwise}
 use Rattle.matching_rules.proofs.Passing.{restricted}
-use Rattle.matching_rules.specs.Reach.{Subpattern, operand, repeated, choice-first, choice-second, group-first, group-second, interleave-first, interleave-second, of-except}
-use Rattle.matching_rules.proofs.RowPatterns.{Makes, makes-empty, makes-notAllowed, makes-text, makes-data, makes-except, makes-value, makes-attribute, makes-ref, makes-oneOrMore, makes-choice, makes-group, makes-interleave, makes-none, row-makes}
+use Rattle.matching_rules.specs.Reach.{Subpattern, operand, repeated, choice-first, choice-second, group-first, group-second, interleave-first, interleave-second, of-list, of-except}
+use Rattle.matching_rules.proofs.RowPatterns.{Makes, makes-empty, makes-notAllowed, makes-text, makes-data, makes-except, makes-value, makes-list, makes-attribute, makes-ref, makes-oneOrMore, makes-choice, makes-group, makes-interleave, makes-none, row-makes}
 use Rattle.matching_rules.proofs.Strata.{not-match}
+use Rattle.matching_tokens.specs.Tokens.{TokenPlaces, ListReady}
 use Rattle.matching_alone.specs.Alone.{TellsString, Alone}
-use Rattle.matching_alone.specs.Rows.{EitherOf, DataEntry, OneSide, OneOf, EqualTo, SameRow, NothingAt, StringAt}
+use Rattle.matching_alone.specs.Rows.{EitherOf, DataEntry, OneSide, OneOf, EqualTo, TokensTo, SameRow, FillableList, NothingAt, StringAt}
 use Rattle.matching_alone.proofs.Short.{Either, null-group, null-interleave, lone-group, lone-interleave, null-oneOrMore, lone-oneOrMore, null-choice, lone-choice, not-none, no-element, some-element}
 
 or-iff : {A B C D : Type 0} → A ↔ C → B ↔ D → (A ⊎ B) ↔ (C ⊎ D)
@@ -39,44 +40,7 @@ one-iff = (λ x. ⊎-elim (λ a. a) (λ a. a) x, inl)
 pub not-one : ¬ (_≡_ {A = ℕ} 0 1)
 not-one e = omega arith
 
--- the patterns of rows by their kinds
 module _ (s : List ℕ) (p : ℕ) where
-  is-empty : kindOf s p ≡ kind.empty → patternOf s p ≡ pattern.empty
-  unfolding patternBy
-  is-empty e = rw e
-
-  pub is-text : kindOf s p ≡ kind.text → patternOf s p ≡ pattern.text
-  unfolding patternBy
-  is-text e = rw e
-
-  pub is-data : kindOf s p ≡ kind.«data» → bOf s p ≡ kind.noRow → patternOf s p ≡ pattern.dataAll (aOf s p)
-  unfolding patternBy
-  is-data e f = rw (e, eq-eqb (bOf s p) kind.noRow f)
-
-  pub is-except : kindOf s p ≡ kind.«data» → bOf s p ≢ kind.noRow → patternOf s p ≡ pattern.dataExcept (aOf s p) (bOf s p)
-  unfolding patternBy
-  is-except e f = rw (e, ne-eqb (bOf s p) kind.noRow f)
-
-  is-value : kindOf s p ≡ kind.value → patternOf s p ≡ pattern.value (aOf s p) (bOf s p)
-  unfolding patternBy
-  is-value e = rw e
-
-  pub is-oneOrMore : kindOf s p ≡ kind.oneOrMore → patternOf s p ≡ pattern.oneOrMore (aOf s p)
-  unfolding patternBy
-  is-oneOrMore e = rw e
-
-  pub is-choice : kindOf s p ≡ kind.choice → patternOf s p ≡ pattern.choice (aOf s p) (bOf s p)
-  unfolding patternBy
-  is-choice e = rw e
-
-  pub is-group : kindOf s p ≡ kind.group → patternOf s p ≡ pattern.group (aOf s p) (bOf s p)
-  unfolding patternBy
-  is-group e = rw e
-
-  pub is-interleave : kindOf s p ≡ kind.interleave → patternOf s p ≡ pattern.interleave (aOf s p) (bOf s p)
-  unfolding patternBy
-  is-interleave e = rw e
-
   -- a row of no other kind
   pub record Rest : Type 0 where
     pub no-text : kindOf s p ≢ kind.text
@@ -100,6 +64,7 @@ module _ (T : StringTable) (s t : List ℕ) where
   no-null p r f (makes-data e g) d = nil≢cons (stepwise L N (pattern.dataAll _) .0 d .1 .1)
   no-null p r f (makes-except e g) d = nil≢cons (stepwise L N (pattern.dataExcept _ _) .0 d .1 .1)
   no-null p r f (makes-value e) d = nil≢cons (stepwise L N (pattern.value _ _) .0 d .1 .1)
+  no-null p r f (makes-list e) d = nil≢cons (stepwise L N (pattern.list _) .0 d .1 .1)
   no-null p r f (makes-attribute e) d = let g = stepwise L N (pattern.attribute (aOf s p) (bOf s p)) .0 d in not-none (g .row) (g .set)
   no-null p r f (makes-ref e) d = let g = stepwise L N (pattern.ref (aOf s p)) .0 d in some-element (g .ws₁) (g .ws₂) (g .row) (g .sequence)
   no-null p r f (makes-oneOrMore e) d = r .no-repeat e
@@ -108,20 +73,21 @@ module _ (T : StringTable) (s t : List ℕ) where
   no-null p r f (makes-interleave e) d = r .no-interleave e
   no-null p r f (makes-none e) d = stepwise L N pattern.noPattern .0 d
 
-  no-lone : (p : ℕ) {x : Pattern} {w : List ℕ} → Rest s p → kindOf s p ≢ kind.«data» → kindOf s p ≢ kind.value → Makes (kindOf s p) (aOf s p) (bOf s p) x → ¬ Match L N noAttributes (string w ∷ []) x
-  no-lone p r f v (makes-empty e) d = cons≢nil (stepwise L N pattern.empty .0 d .1)
-  no-lone p r f v (makes-notAllowed e) d = stepwise L N pattern.notAllowed .0 d
-  no-lone p r f v (makes-text e) d = r .no-text e
-  no-lone p r f v (makes-data e g) d = f e
-  no-lone p r f v (makes-except e g) d = f e
-  no-lone p r f v (makes-value e) d = v e
-  no-lone p r f v (makes-attribute e) d = let g = stepwise L N (pattern.attribute (aOf s p) (bOf s p)) .0 d in not-none (g .row) (g .set)
-  no-lone p {w = w} r f v (makes-ref e) d = let g = stepwise L N (pattern.ref (aOf s p)) .0 d in no-element (g .ws₁) (g .ws₂) (g .row) w (g .sequence)
-  no-lone p r f v (makes-oneOrMore e) d = r .no-repeat e
-  no-lone p r f v (makes-choice e) d = r .no-choice e
-  no-lone p r f v (makes-group e) d = r .no-group e
-  no-lone p r f v (makes-interleave e) d = r .no-interleave e
-  no-lone p r f v (makes-none e) d = stepwise L N pattern.noPattern .0 d
+  no-lone : (p : ℕ) {x : Pattern} {w : List ℕ} → Rest s p → kindOf s p ≢ kind.«data» → kindOf s p ≢ kind.value → kindOf s p ≢ kind.list → Makes (kindOf s p) (aOf s p) (bOf s p) x → ¬ Match L N noAttributes (string w ∷ []) x
+  no-lone p r f v l (makes-empty e) d = cons≢nil (stepwise L N pattern.empty .0 d .1)
+  no-lone p r f v l (makes-notAllowed e) d = stepwise L N pattern.notAllowed .0 d
+  no-lone p r f v l (makes-text e) d = r .no-text e
+  no-lone p r f v l (makes-data e g) d = f e
+  no-lone p r f v l (makes-except e g) d = f e
+  no-lone p r f v l (makes-value e) d = v e
+  no-lone p r f v l (makes-list e) d = l e
+  no-lone p r f v l (makes-attribute e) d = let g = stepwise L N (pattern.attribute (aOf s p) (bOf s p)) .0 d in not-none (g .row) (g .set)
+  no-lone p {w = w} r f v l (makes-ref e) d = let g = stepwise L N (pattern.ref (aOf s p)) .0 d in no-element (g .ws₁) (g .ws₂) (g .row) w (g .sequence)
+  no-lone p r f v l (makes-oneOrMore e) d = r .no-repeat e
+  no-lone p r f v l (makes-choice e) d = r .no-choice e
+  no-lone p r f v l (makes-group e) d = r .no-group e
+  no-lone p r f v l (makes-interleave e) d = r .no-interleave e
+  no-lone p r f v l (makes-none e) d = stepwise L N pattern.noPattern .0 d
 
 -- a part of a pattern comes before it
 module _ (s : List ℕ) (p : ℕ) where
@@ -131,29 +97,29 @@ module _ (s : List ℕ) (p : ℕ) where
 -- the empty sequence
 module _ (s nothing : List ℕ) (p : ℕ) {v : ℕ} where
   pub nothing-empty : kindOf s p ≡ kind.empty → v ≡ 1 → NothingAt s nothing p v
-  nothing-empty e f T t alone c b = (λ x. rw (is-empty s p e) empty, λ x. f)
+  nothing-empty e f T t alone c b = (λ x. rw (empty-at s p e) empty, λ x. f)
 
   pub nothing-text : kindOf s p ≡ kind.text → v ≡ 1 → NothingAt s nothing p v
-  nothing-text e f T t alone c b = (λ x. rw (is-text s p e) text-1, λ x. f)
+  nothing-text e f T t alone c b = (λ x. rw (text-at s p e) text-1, λ x. f)
 
   pub nothing-oneOrMore : kindOf s p ≡ kind.oneOrMore → v ≡ getD nothing (aOf s p) 0 → NothingAt s nothing p v
   nothing-oneOrMore e f T t alone c b =
-      let x = is-oneOrMore s p e in
+      let x = oneOrMore-at s p e in
       rw f (Iff·trans (b .empty t (aOf s p) (falls s p T t c x (operand repeated))) (Iff·symm (null-oneOrMore (L T s t) (N T s t) x)))
 
   pub nothing-choice : kindOf s p ≡ kind.choice → (v ≡ 1) ↔ ((getD nothing (aOf s p) 0 ≡ 1) ⊎ (getD nothing (bOf s p) 0 ≡ 1)) → NothingAt s nothing p v
   nothing-choice e f T t alone c b =
-      let x = is-choice s p e in
+      let x = choice-at s p e in
       Iff·trans f (Iff·trans (or-iff (b .empty t (aOf s p) (falls s p T t c x (operand choice-first))) (b .empty t (bOf s p) (falls s p T t c x (operand choice-second)))) (Iff·symm (null-choice (L T s t) (N T s t) x)))
 
   pub nothing-group : kindOf s p ≡ kind.group → (v ≡ 1) ↔ ((getD nothing (aOf s p) 0 ≡ 1) × (getD nothing (bOf s p) 0 ≡ 1)) → NothingAt s nothing p v
   nothing-group e f T t alone c b =
-      let x = is-group s p e in
+      let x = group-at s p e in
       Iff·trans f (Iff·trans (and-iff (b .empty t (aOf s p) (falls s p T t c x (operand group-first))) (b .empty t (bOf s p) (falls s p T t c x (operand group-second)))) (Iff·symm (null-group (L T s t) (N T s t) p (aOf s p) (bOf s p) x)))
 
   pub nothing-interleave : kindOf s p ≡ kind.interleave → (v ≡ 1) ↔ ((getD nothing (aOf s p) 0 ≡ 1) × (getD nothing (bOf s p) 0 ≡ 1)) → NothingAt s nothing p v
   nothing-interleave e f T t alone c b =
-      let x = is-interleave s p e in
+      let x = interleave-at s p e in
       Iff·trans f (Iff·trans (and-iff (b .empty t (aOf s p) (falls s p T t c x (operand interleave-first))) (b .empty t (bOf s p) (falls s p T t c x (operand interleave-second)))) (Iff·symm (null-interleave (L T s t) (N T s t) p (aOf s p) (bOf s p) x)))
 
   pub nothing-rest : Rest s p → kindOf s p ≢ kind.empty → v ≡ 0 → NothingAt s nothing p v
@@ -172,17 +138,17 @@ sides T s alone nothing p k t b l r h = or-iff (and-iff (b .strings t (aOf s p) 
 -- one string
 module _ (T : StringTable) (s alone nothing : List ℕ) (p k : ℕ) {v : ℕ} where
   pub string-text : kindOf s p ≡ kind.text → v ≡ 1 → StringAt T s alone nothing p k v
-  string-text e f t c b h = (λ x. rw (is-text s p e) (text-2 (textOf T k) text-1), λ x. f)
+  string-text e f t c b h = (λ x. rw (text-at s p e) (text-2 (textOf T k) text-1), λ x. f)
 
   pub string-data : kindOf s p ≡ kind.«data» → DataEntry alone (bOf s p) k v → StringAt T s alone nothing p k v
   string-data e f t c b h = elim (ℕ-discrete (bOf s p) kind.noRow) [ yes z ↦ all z | no z ↦ except z ]
     where
       all : bOf s p ≡ kind.noRow → TellsString (tablesOf T s t) p k v
-      all z = (λ x. rw (is-data s p e z) (stepwise (L T s t) (N T s t) (pattern.dataAll (aOf s p)) .1 (refl, (textOf T k, refl, tt))), λ x. f .all z)
+      all z = (λ x. rw (data-at s p e z) (stepwise (L T s t) (N T s t) (pattern.dataAll (aOf s p)) .1 (refl, (textOf T k, refl, tt))), λ x. f .all z)
 
       except : bOf s p ≢ kind.noRow → TellsString (tablesOf T s t) p k v
       except z =
-          let x = is-except s p e z in
+          let x = except-at s p e z in
           let R = restricted (tablesOf T s t) c in
           let n = not-match R p (aOf s p) (bOf s p) x (textOf T k) in
           let l = b .strings t (bOf s p) k (falls s p T t c x of-except) h in (
@@ -192,38 +158,56 @@ module _ (T : StringTable) (s alone nothing : List ℕ) (p k : ℕ) {v : ℕ} wh
 
   pub string-value : kindOf s p ≡ kind.value → EqualTo T (aOf s p) (bOf s p) k v → StringAt T s alone nothing p k v
   string-value e f t c b h =
-      let x = is-value s p e in
+      let x = value-at s p e in
       let y = stepwise (L T s t) (N T s t) (pattern.value (aOf s p) (bOf s p)) in
       (λ z. rw x (y .1 (refl, (textOf T k, refl, f .0 z))), λ d. f .1 (one-string (y .0 (rw x at d) .1)))
+
+  pub string-list : kindOf s p ≡ kind.list → TokensTo T s (aOf s p) k v → StringAt T s alone nothing p k v
+  string-list e f t c b h =
+      let x = list-at s p e in
+      let y = stepwise (L T s t) (N T s t) (pattern.list (aOf s p)) in
+      (λ z. rw x (y .1 (refl, (textOf T k, refl, f t .0 z))), λ d. f t .1 (one-string (y .0 (rw x at d) .1)))
 
   -- a value has the entries of an earlier one with the same fields
   pub string-same : {q : ℕ} → kindOf s p ≡ kind.value → SameRow s q p → EitherOf alone q q k v → StringAt T s alone nothing p k v
   string-same {q} e r f t c b h =
-      let x : patternOf s p ≡ patternOf s q = is-value s p e ∙ ap₂ pattern.value (sym (r .same-datatype)) (sym (r .same-string)) ∙ sym (is-value s q (r .is-value)) in
+      let x : patternOf s p ≡ patternOf s q = value-at s p e ∙ ap₂ pattern.value (sym (r .same-datatype)) (sym (r .same-string)) ∙ sym (value-at s q (r .is-value)) in
       rw x (Iff·trans f (Iff·trans one-iff (b .strings t q k (r .before) h)))
 
   pub string-oneOrMore : kindOf s p ≡ kind.oneOrMore → EitherOf alone (aOf s p) (aOf s p) k v → StringAt T s alone nothing p k v
   string-oneOrMore e f t c b h =
-      let x = is-oneOrMore s p e in
+      let x = oneOrMore-at s p e in
       Iff·trans f (Iff·trans one-iff (Iff·trans (b .strings t (aOf s p) k (falls s p T t c x (operand repeated)) h) (Iff·symm (lone-oneOrMore (L T s t) (N T s t) x))))
 
   pub string-choice : kindOf s p ≡ kind.choice → EitherOf alone (aOf s p) (bOf s p) k v → StringAt T s alone nothing p k v
   string-choice e f t c b h =
-      let x = is-choice s p e in
+      let x = choice-at s p e in
       Iff·trans f (Iff·trans (or-iff (b .strings t (aOf s p) k (falls s p T t c x (operand choice-first)) h) (b .strings t (bOf s p) k (falls s p T t c x (operand choice-second)) h)) (Iff·symm (lone-choice (L T s t) (N T s t) x)))
 
   pub string-group : kindOf s p ≡ kind.group → OneOf alone nothing (aOf s p) (bOf s p) k v → StringAt T s alone nothing p k v
   string-group e f t c b h =
-      let x = is-group s p e in
+      let x = group-at s p e in
       Iff·trans f (Iff·trans (sides T s alone nothing p k t b (falls s p T t c x (operand group-first)) (falls s p T t c x (operand group-second)) h) (Iff·symm (lone-group (L T s t) (N T s t) p (aOf s p) (bOf s p) x)))
 
   pub string-interleave : kindOf s p ≡ kind.interleave → OneOf alone nothing (aOf s p) (bOf s p) k v → StringAt T s alone nothing p k v
   string-interleave e f t c b h =
-      let x = is-interleave s p e in
+      let x = interleave-at s p e in
       Iff·trans f (Iff·trans (sides T s alone nothing p k t b (falls s p T t c x (operand interleave-first)) (falls s p T t c x (operand interleave-second)) h) (Iff·symm (lone-interleave (L T s t) (N T s t) p (aOf s p) (bOf s p) x)))
 
-  pub string-rest : Rest s p → kindOf s p ≢ kind.«data» → kindOf s p ≢ kind.value → v ≡ 0 → StringAt T s alone nothing p k v
-  string-rest r f g z t c b h = (λ e. absurd (not-one (sym z ∙ e)), λ d. absurd (no-lone T s t p r f g (row-makes s p refl) d))
+  pub string-rest : Rest s p → kindOf s p ≢ kind.«data» → kindOf s p ≢ kind.value → kindOf s p ≢ kind.list → v ≡ 0 → StringAt T s alone nothing p k v
+  string-rest r f g l z t c b h = (λ e. absurd (not-one (sym z ∙ e)), λ d. absurd (no-lone T s t p r f g l (row-makes s p refl) d))
+
+-- the pattern of a list may be held against tokens
+pub list-ready : {T : StringTable} {s alone nothing places : List ℕ} {p a : ℕ} → FillableList T s alone nothing p a → TokenPlaces T places → ListReady T s places nothing a
+list-ready {T} {s} {alone} {nothing} {places} {p} {a} asked placed =
+    let c = asked .row .passes in
+    let x : patternOf s p ≡ pattern.list a = list-at s p (asked .is-list) ∙ ap pattern.list (sym (asked .field)) in
+    record {
+      passes = c;
+      placed = placed;
+      nulls = λ t q h. let l = falls s p T t c x of-list in asked .row .before .empty t q (omega arith);
+      listable = λ t. restricted (tablesOf T s t) c .lists p a x;
+    }
 
 -- equality by the number of the datatype
 pub by-string : (d : ℕ) (a b : List ℕ) → d ≡ 0 → (a ≡ b) ↔ datatypeEqual d a b

@@ -6,7 +6,7 @@ use mathlib.Core.List.{List, [], _∷_}
 use mathlib.Core.Logic.{_↔_}
 use lib.ListN.{length, getD}
 use Rattle.tables.specs.Tables.{StringTable, Tables, tablesOf}
-use Rattle.strings.specs.Strings.{textOf, maxStrings, schemaStrings, instanceStrings}
+use Rattle.strings.specs.Strings.{textOf, maxBytes, maxStrings, schemaStrings, instanceStrings}
 use Rattle.datatypes.specs.Whitespace.{whitespace}
 use Rattle.schema.specs.Rows.{rowsOf}
 use Rattle.schema.specs.RowRule.{maxRows}
@@ -40,6 +40,7 @@ pub record Alone (T : StringTable) (s alone nothing : List ℕ) (n : ℕ) : Type
 -- the schema passes, and the tables have room for all rows and strings
 pub record FillReady (T : StringTable) (s alone nothing blank : List ℕ) : Type 0 where
   pub passes : SchemaPasses (schemaStrings T) s
+  pub few-bytes : length (T .bytes) ≤ maxBytes
   pub few-strings : instanceStrings T ≤ maxStrings
   pub long-alone : maxRows * maxStrings ≤ length alone
   pub long-nothing : maxRows ≤ length nothing

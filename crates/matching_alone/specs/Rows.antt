@@ -1,16 +1,20 @@
 -- One row of the table while it is filled; cited by private functions only.
-use Prim.Native.Nat.{ℕ, _*_, _<_}
+use Prim.Native.Nat.{ℕ, _*_, _≤_, _<_}
 use mathlib.Core.Path.{_≡_}
 use mathlib.Core.Logic.{_↔_, _⊎_, _≢_}
-use mathlib.Core.List.{List}
+use mathlib.Core.List.{List, map}
 use lib.ListN.{length, getD}
 use Rattle.tables.specs.Tables.{StringTable, tablesOf}
 use Rattle.schema.specs.Kinds as kind
 use Rattle.schema.specs.Rows.{kindOf, aOf, bOf}
-use Rattle.strings.specs.Strings.{textOf, maxStrings, schemaStrings, instanceStrings}
+use Rattle.schema.specs.Views.{patternOf}
+use Rattle.strings.specs.Strings.{textOf, maxBytes, maxStrings, schemaStrings, instanceStrings}
 use Rattle.schema_restrictions.specs.Schema.{SchemaPasses}
 use Rattle.datatypes.specs.Whitespace.{trimStart}
-use Rattle.matching_rules.specs.Job.{datatypeEqual}
+use Rattle.datatypes.specs.Split.{split}
+use Rattle.matching_rules.specs.Items.{string, noAttributes}
+use Rattle.matching_rules.specs.Rules.{Matches}
+use Rattle.matching_rules.specs.Job.{lookups, datatypeEqual}
 use Rattle.matching_alone.specs.Alone.{entry, TellsString, TellsNothing, Alone}
 
 -- the answer v for string k by the rows that come before: it is in one of two
@@ -36,6 +40,10 @@ OneOf alone nothing a b k v = (v ≡ 1) ↔ OneSide alone nothing a b k
 -- the string is one value with string w
 abbrev pub EqualTo : (T : StringTable) (datatype w k v : ℕ) → Type 0
 EqualTo T datatype w k v = (v ≡ 1) ↔ datatypeEqual datatype (textOf T k) (textOf T w)
+
+-- the tokens of the string match the pattern at row a, whatever the instance is
+abbrev pub TokensTo : (T : StringTable) (s : List ℕ) (a k v : ℕ) → Type 0
+TokensTo T s a k v = (t : List ℕ) → (v ≡ 1) ↔ Matches (lookups (tablesOf T s t)) noAttributes (map string (split (textOf T k))) (patternOf s a)
 
 -- row q comes before row p, and is a value with the same fields
 pub record SameRow (s : List ℕ) (q p : ℕ) : Type 0 where
@@ -69,3 +77,16 @@ pub record RowOf (f : ℕ → ℕ → Type 0) (before after : List ℕ) (p n : �
 -- the entries of row p are right, where those of the rows before it are
 abbrev pub RowMade : (T : StringTable) (s before nothing after : List ℕ) (p : ℕ) → Type 0
 RowMade T s before nothing after p = SchemaPasses (schemaStrings T) s → Alone T s before nothing p → RowOf (λ k v. (t : List ℕ) → TellsString (tablesOf T s t) p k v) before after p (instanceStrings T)
+
+-- the row of pattern p can be filled: the schema passes, there are few bytes, and the rows before p are right
+pub record Fillable (T : StringTable) (s alone nothing : List ℕ) (p : ℕ) : Type 0 where
+  pub passes : SchemaPasses (schemaStrings T) s
+  pub few-bytes : length (T .bytes) ≤ maxBytes
+  pub few-strings : instanceStrings T ≤ maxStrings
+  pub before : Alone T s alone nothing p
+
+-- and is a list with its pattern at row a
+pub record FillableList (T : StringTable) (s alone nothing : List ℕ) (p a : ℕ) : Type 0 where
+  pub row : Fillable T s alone nothing p
+  pub is-list : kindOf s p ≡ kind.list
+  pub field : a ≡ aOf s p

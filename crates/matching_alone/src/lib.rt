@@ -6,14 +6,15 @@ ghost use mathlib.Core.List.{List};
 ghost use Prim.Native.Nat.{ℕ, _<_, _≤_};
 ghost use lib.ListN.{length, getD};
 ghost use Rattle.tables.specs.Tables.{stringTable};
-ghost use Rattle.strings.specs.Strings.{textOf};
+ghost use Rattle.strings.specs.Strings.{textOf, maxBytes};
 ghost use Rattle.datatypes.specs.Whitespace.{whitespace};
 ghost use Rattle.schema_restrictions.specs.Schema.{SchemaPasses};
 ghost use Rattle.matching_rules.specs.Job.{datatypeEqual};
+ghost use Rattle.matching_tokens.specs.Tokens.{ListReady};
 ghost use Rattle.schema.specs.Kinds.{noRow, value};
 ghost use Rattle.schema.specs.Rows.{kindOf};
 ghost use Rattle.matching_alone.specs.Alone.{Blank, Alone, FillReady, Filled};
-ghost use Rattle.matching_alone.specs.Rows.{EitherOf, NotOf, DataEntry, OneOf, EqualTo, SameRow, leadOf, LeadsTo, NothingAt, RowOf, RowMade};
+ghost use Rattle.matching_alone.specs.Rows.{EitherOf, NotOf, DataEntry, OneOf, EqualTo, TokensTo, SameRow, leadOf, LeadsTo, NothingAt, RowOf, Fillable, FillableList, RowMade};
 
 fn either(x: u8, y: u8) -> u8
     ensures { λ r. ⌜ (r ≡ 1) ↔ ((x ≡ 1) ⊎ (y ≡ 1)) ⌝ }
@@ -286,6 +287,53 @@ fn fill_value(
     fill_equal(bytes, ends, leads, alone, p, a, b);
 }
 
+// Whether the tokens of string k match the pattern at row a.
+fn list_entry(
+    bytes: &[u8],
+    ends: &[u32],
+    schema: &[u32],
+    places: &[u32],
+    nothing: &[u8],
+    a: u32,
+    k: usize,
+) -> u8
+    requires { ⌜ ListReady (stringTable (now bytes) (now ends)) (now schema) (now places) (now nothing) a ⌝ }
+    ensures { λ r. ⌜ TokensTo (stringTable (now (bytes .entry)) (now (ends .entry))) (now (schema .entry)) a k r ⌝ }
+{
+    let text = strings::text(bytes, ends, k);
+    if matching_tokens::tokens_match(bytes, ends, schema, places, nothing, text, a) {
+        return 1;
+    }
+    0
+}
+
+// The entries of the list at row p: the strings whose tokens match its pattern, at row a.
+fn fill_list(
+    bytes: &[u8],
+    ends: &[u32],
+    schema: &[u32],
+    alone: &mut [u8],
+    nothing: &[u8],
+    p: u32,
+    a: u32,
+)
+    requires { ⌜ (p < 512) × (262144 ≤ length (now alone))
+        × FillableList (stringTable (now bytes) (now ends)) (now schema) (now alone) (now nothing) p a ⌝ }
+    ensures { λ _.
+        ⌜ RowOf (TokensTo (stringTable (now (bytes .entry)) (now (ends .entry))) (now (schema .entry)) a) (now (alone .entry)) (now (alone .exit)) p
+        (length (now (ends .entry))) ⌝ }
+{
+    let mut places = [0u32; strings::MAX_STRINGS * 2];
+    matching_tokens::find_tokens(bytes, ends, &mut places);
+    let to = p as usize * 512;
+    let mut k: usize = 0;
+    while k < ends.len() {
+        let v = list_entry(bytes, ends, schema, &places, nothing, a, k);
+        alone[to + k] = v;
+        k += 1;
+    }
+}
+
 // The entries of the row of pattern p.
 fn fill_row(
     bytes: &[u8],
@@ -298,7 +346,8 @@ fn fill_row(
     p: u32,
 )
     requires { ⌜ (p < 512) × (length (now ends) ≤ 512) × (262144 ≤ length (now alone))
-        × LeadsTo (stringTable (now bytes) (now ends)) (now leads) (length (now ends)) ⌝ }
+        × LeadsTo (stringTable (now bytes) (now ends)) (now leads) (length (now ends))
+        × Fillable (stringTable (now bytes) (now ends)) (now schema) (now alone) (now nothing) p ⌝ }
     ensures { λ _.
         ⌜ RowMade (stringTable (now (bytes .entry)) (now (ends .entry))) (now (schema .entry)) (now (alone .entry)) (now (nothing .entry))
         (now (alone .exit)) p ⌝ }
@@ -311,6 +360,7 @@ fn fill_row(
         schema::TEXT => fill_same(alone, p, n, 1),
         schema::DATA => fill_data(alone, p, n, b),
         schema::VALUE => fill_value(bytes, ends, schema, leads, alone, noted, p),
+        schema::LIST => fill_list(bytes, ends, schema, alone, nothing, p, a),
         schema::ONE_OR_MORE => fill_either(alone, p, n, a, a),
         schema::CHOICE => fill_either(alone, p, n, a, b),
         schema::GROUP => fill_one(alone, nothing, p, n, a, b),
@@ -328,10 +378,10 @@ fn fill_rows(
     nothing: &mut [u8],
     rows: u32,
 )
-    requires { ⌜ (rows ≤ 512) × (length (now ends) ≤ 512) × (262144 ≤ length (now alone)) × (512 ≤ length (now nothing)) ⌝ }
+    requires { ⌜ (rows ≤ 512) × (length (now bytes) ≤ maxBytes) × (length (now ends) ≤ 512) × (262144 ≤ length (now alone))
+        × (512 ≤ length (now nothing)) × SchemaPasses (length (now ends)) (now schema) ⌝ }
     ensures { λ _.
-        ⌜ (SchemaPasses (length (now (ends .entry))) (now (schema .entry)) → Alone (stringTable (now (bytes .entry)) (now (ends .entry)))
-        (now (schema .entry)) (now (alone .exit)) (now (nothing .exit)) rows) ⌝ }
+        ⌜ Alone (stringTable (now (bytes .entry)) (now (ends .entry))) (now (schema .entry)) (now (alone .exit)) (now (nothing .exit)) rows ⌝ }
 {
     let mut leads = [0u8; 512];
     fill_leads(bytes, ends, &mut leads);

@@ -21,6 +21,7 @@ use Rattle.sets.specs.Bits.{bit}
 use Rattle.sets.proofs.Bits.{bit-and}
 use Rattle.sets.specs.Collecting.{Collects}
 use Rattle.sets.proofs.Collecting.{collected}
+use Rattle.schema.proofs.Patterns.{attribute-at, ref-at}
 use Rattle.matching_rules.specs.Items.{element, string, noAttributes, Lookups}
 use Rattle.matching_rules.specs.Rules.{Match, WeakMatch, NotMatchBy, text-1, text-2, data-1, data-2}
 use Rattle.matching_rules.specs.Rules as rule
@@ -35,7 +36,7 @@ use Rattle.matching_alone.specs.Alone.{entry}
 use Rattle.matching_marks.specs.Given.{itemAt, pairEntry, Given}
 use Rattle.matching_marks.specs.Marks.{attributeRow, Takes, IsPaired, TakesAttribute, LeafWord}
 use Rattle.matching_marks.specs.Tests.{hasName, valueFits, stringAlone, elementPaired, attributeNamed, attributeFits}
-use Rattle.matching_marks.proofs.RowKinds.{StringPattern, of-text, of-string, string-made, taker-kinds, from-attribute, attribute-at, ref-at, ref-row}
+use Rattle.matching_marks.proofs.RowKinds.{StringPattern, of-text, of-string, string-made, taker-kinds, from-attribute, ref-row}
 
 -- an entry is 1 exactly where its test says so
 pub entry-test : {A : Type 0} (n : ℕ) → (n ≡ 1) ↔ A → (eqb n 1 ≡ true) ↔ A
@@ -101,7 +102,7 @@ module _ {J : Tables} {alone nothing blank pairs items : List ℕ} {e attributes
           (weakly .0 w)
 
   module _ (p : ℕ) (row : p < rowsOf s) where
-    pub leaf-strings : {w : ℕ} → kind.text ≤ kindOf s p → kindOf s p < suc kind.value → Collects (stringAlone alone items texts p) (length items) w → Leaf p w
+    pub leaf-strings : {w : ℕ} → kind.text ≤ kindOf s p → kindOf s p < suc kind.list → Collects (stringAlone alone items texts p) (length items) w → Leaf p w
     leaf-strings h l c = record {
       leaves = λ k i any. rw (collected c i) (by-item k i (bit texts k) refl);
       attribute-leaves = λ nc q x f. absurd (omega (arith, from-attribute (row-makes s p f) .0));
@@ -147,7 +148,7 @@ module _ {J : Tables} {alone nothing blank pairs items : List ℕ} {e attributes
             let y = value-fits (bOf s p) (node.cOf t (attributeRow e x)) below (g .values x i) in
             (λ u. record { named = and-left n v u; valued = y .0 (and-right n v u) }, λ d. both-and (d .named) (y .1 (d .valued)))
 
-    pub leaf-none : (kind.text ≤ kindOf s p → ¬ (kindOf s p < suc kind.value)) → kindOf s p ≢ kind.attribute → kindOf s p ≢ kind.ref → Leaf p 0
+    pub leaf-none : (kind.text ≤ kindOf s p → ¬ (kindOf s p < suc kind.list)) → kindOf s p ≢ kind.attribute → kindOf s p ≢ kind.ref → Leaf p 0
     leaf-none no-string no-attribute no-ref = record {
       leaves = λ k i any. absurd (⊎-elim (λ h. no-string (h .0) (h .1)) no-ref (taker-kinds (row-makes s p refl) any));
       attribute-leaves = λ nc q x h. absurd (no-attribute (from-attribute (row-makes s p h) .0));

@@ -17,7 +17,7 @@ use Rattle.sets.specs.Bits.{bit}
 use Rattle.sets.proofs.Members.{none-has, or-has, has-or-l, has-or-r}
 use Rattle.matching_rules.specs.Items.{Lookups}
 use Rattle.matching_rules.specs.Reach.{Operand, repeated, choice-first, choice-second, group-first, group-second, interleave-first, interleave-second, Reaches, here, there}
-use Rattle.matching_rules.proofs.RowPatterns.{Makes, makes-empty, makes-notAllowed, makes-text, makes-data, makes-except, makes-value, makes-attribute, makes-ref, makes-oneOrMore, makes-choice, makes-group, makes-interleave, makes-none}
+use Rattle.matching_rules.proofs.RowPatterns.{Makes, makes-empty, makes-notAllowed, makes-text, makes-data, makes-except, makes-value, makes-list, makes-attribute, makes-ref, makes-oneOrMore, makes-choice, makes-group, makes-interleave, makes-none}
 use Rattle.matching_marks.specs.Tests.{joinedBy}
 use Rattle.matching_marks.proofs.RowKinds.{operand-kinds}
 
@@ -103,6 +103,7 @@ module _ (words : List ℕ) (j : ℕ) where
   joined-members (makes-data e f) = leaf _ _ _ (makes-data e f) (λ h l. omega arith)
   joined-members (makes-except e f) = leaf _ _ _ (makes-except e f) (λ h l. omega arith)
   joined-members (makes-value e) = leaf _ _ _ (makes-value e) (λ h l. omega arith)
+  joined-members (makes-list e) = leaf _ _ _ (makes-list e) (λ h l. omega arith)
   joined-members (makes-attribute e) = leaf _ _ _ (makes-attribute e) (λ h l. omega arith)
   joined-members (makes-ref e) = leaf _ _ _ (makes-ref e) (λ h l. omega arith)
   joined-members {k} {a} {b} (makes-oneOrMore e) = rw (joined-one k (getD words a 0) (getD words b 0) e) (λ h. (a, repeated, h), λ o. rw (operand-one (o .1)) at (o .2))

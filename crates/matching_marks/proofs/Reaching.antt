@@ -11,6 +11,7 @@ use Rattle.strings.specs.Strings.{textOf, schemaStrings}
 use Rattle.schema.specs.Kinds as kind
 use Rattle.schema.specs.Rows.{kindOf, aOf, bOf}
 use Rattle.schema.specs.Views.{Pattern, patternOf, attribute, ref}
+use Rattle.schema.proofs.Patterns.{attribute-at, ref-at}
 use Rattle.schema_restrictions.specs.Schema.{SchemaPasses}
 use Rattle.sets.specs.Bits.{bit}
 use Rattle.sets.specs.Collecting.{Collects}
@@ -26,7 +27,7 @@ use Rattle.matching_marks.specs.Given.{itemAt}
 use Rattle.matching_marks.specs.Marks.{attributeRow, NamedWord, TakenWord}
 use Rattle.matching_marks.specs.Tests.{hasName, elementNamed, attributeNamed, joinedBy}
 use Rattle.matching_marks.proofs.Operands.{reaches-itself, joined-reaches}
-use Rattle.matching_marks.proofs.RowKinds.{StringPattern, of-text, of-string, string-made, string-kinds, operand-kinds, attribute-at, ref-at, ref-definition}
+use Rattle.matching_marks.proofs.RowKinds.{StringPattern, of-text, of-string, string-made, string-kinds, operand-kinds, ref-definition}
 
 -- a pattern that takes strings names no element
 string-taken : {x : Pattern} → StringPattern x → takesString x ≡ true
@@ -38,7 +39,7 @@ string-no-name L e of-text = refl
 string-no-name L e (of-string i) = ap (elementBy L e) i
 
 -- a row of another kind takes no item
-other-takes : (L : Lookups) {k a b : ℕ} {x : Pattern} → Makes k a b x → (kind.text ≤ k → ¬ (k < suc kind.value)) → k ≢ kind.ref → (y : Item) → takes L y x ≡ false
+other-takes : (L : Lookups) {k a b : ℕ} {x : Pattern} → Makes k a b x → (kind.text ≤ k → ¬ (k < suc kind.list)) → k ≢ kind.ref → (y : Item) → takes L y x ≡ false
 other-takes L {x = x} m no-string no-ref (element u) = is-false (namesElement L u x) (λ h. no-ref (ref-made L u m h .0))
 other-takes L {x = x} m no-string no-ref (string v) = is-false (takesString x) (λ h. let i = string-kinds m h in no-string (i .0) (i .1))
 
@@ -73,7 +74,7 @@ module _ (J : Tables) (pass : SchemaPasses (schemaStrings (J .strings)) (J .sche
     abbrev Taken : ℕ → ℕ → Type 0
     Taken = TakenWord J (itemAt (J .strings) items texts) (length items)
 
-    pub taken-strings : kind.text ≤ kindOf s p → kindOf s p < suc kind.value → Taken p texts
+    pub taken-strings : kind.text ≤ kindOf s p → kindOf s p < suc kind.list → Taken p texts
     taken-strings h l k i = leaf-reaches (omega arith) (by-item (bit texts k))
       where
         is-string : StringPattern (patternOf s p)
@@ -90,7 +91,7 @@ module _ (J : Tables) (pass : SchemaPasses (schemaStrings (J .strings)) (J .sche
         by-item true = rw (ref-at s p f)
         by-item false = rw (ref-at s p f, ref-definition (pass .rows) p f)
 
-    pub taken-other : {w : ℕ} (taken : List ℕ) → (kind.text ≤ kindOf s p → ¬ (kindOf s p < suc kind.value)) → kindOf s p ≢ kind.ref
+    pub taken-other : {w : ℕ} (taken : List ℕ) → (kind.text ≤ kindOf s p → ¬ (kindOf s p < suc kind.list)) → kindOf s p ≢ kind.ref
         → w ≡ joinedBy (kindOf s p) (getD taken (aOf s p) 0) (getD taken (bOf s p) 0) → AtOperands s Taken taken p → Taken p w
     taken-other taken no-string no-ref q operands k h =
         let m = row-makes s p refl in

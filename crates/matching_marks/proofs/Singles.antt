@@ -14,6 +14,7 @@ use Rattle.tables.proofs.Numbers.{not-less}
 use Rattle.schema.specs.Kinds as kind
 use Rattle.schema.specs.Rows.{kindOf, aOf, bOf}
 use Rattle.schema.specs.Views.{Pattern, patternOf, attribute, oneOrMore, choice}
+use Rattle.schema.proofs.Patterns.{attribute-at, oneOrMore-at, choice-at}
 use Rattle.schema_restrictions.specs.Schema.{SchemaPasses}
 use Rattle.sets.proofs.Members.{none-has}
 use Rattle.matching_rules.specs.Items.{element, only, Lookups}
@@ -33,7 +34,7 @@ use Rattle.matching_marks.specs.Answers.{AtOperands}
 use Rattle.matching_marks.specs.Marks.{attributeRow, TakesAttribute, AttributeWord, SingleWord}
 use Rattle.matching_marks.specs.Tests.{joinedBy}
 use Rattle.matching_marks.proofs.Operands.{joined-operands}
-use Rattle.matching_marks.proofs.RowKinds.{attribute-at, oneOrMore-at, choice-at, operand-kinds, operand-sharing}
+use Rattle.matching_marks.proofs.RowKinds.{operand-kinds, operand-sharing}
 
 -- a set of one member has no other
 same-only : (x y : ℕ) → only x ≡ only y → x ≡ y

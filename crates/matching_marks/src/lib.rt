@@ -185,7 +185,7 @@ fn leaf_word(
     let a = schema::field_a(schema, p);
     let b = schema::field_b(schema, p);
     match schema::kind(schema, p) {
-        schema::TEXT..=schema::VALUE => strings_alone(alone, items, texts, p),
+        schema::TEXT..=schema::LIST => strings_alone(alone, items, texts, p),
         schema::ATTRIBUTE => {
             attributes_named(schema, instance, e, attributes, a)
                 & attributes_fitting(instance, alone, nothing, blank, e, attributes, b)
@@ -229,7 +229,7 @@ fn taken_word(
     let d = schema::field_a(schema, p);
     let c = schema::field_a(schema, d);
     match schema::kind(schema, p) {
-        schema::TEXT..=schema::VALUE => texts,
+        schema::TEXT..=schema::LIST => texts,
         schema::REF => elements_named(schema, instance, items, texts, c),
         _ => operand_words(schema, taken, p),
     }

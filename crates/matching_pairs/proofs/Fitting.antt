@@ -92,10 +92,10 @@ module _ {J : Tables} {alone nothing blank pairs items : List ℕ} {e attributes
     no-name f = (λ z. absurd (omega arith), λ x. absurd (true≢false (sym (x .1 .named) ∙ f)))
 
     pub no-content : ¬ Fits setting (length items) a k weak (bOf s d) → Told 0
-    no-content f = (λ z. absurd (omega arith), λ x. absurd (f (⊎-map (λ y. (omega arith, y)) (λ y. (y .0, (omega arith, y .1))) (shown .content (bOf s d) .0 (x .1 .content)))))
+    no-content f = (λ z. absurd (omega arith), λ x. absurd (f (⊎-map (λ y. (omega arith, y)) (λ y. (y .0, (omega arith, y .1))) (shown .content d (x .1 .defined) .0 (x .1 .content)))))
 
     pub a-pair : element.isElement t e ≡ true → isDefinition s d ≡ true → inClass s (node.aOf t e) (node.bOf t e) (aOf s d) ≡ true → Fits setting (length items) a k weak (bOf s d) → Told 1
-    a-pair i f h c = (λ z. (i, record { defined = f; ordered = shown .ordered; named = h; content = shown .content (bOf s d) .1 (⊎-map (λ x. x .1) (λ x. (x .0, x .1 .1)) c) }), λ x. refl)
+    a-pair i f h c = (λ z. (i, record { defined = f; ordered = shown .ordered; named = h; content = shown .content d f .1 (⊎-map (λ x. x .1) (λ x. (x .0, x .1 .1)) c) }), λ x. refl)
 
 -- the same relation without items, with the words as they were left
 pub relatable-none : {s marks named taken single work after : List ℕ} {m a k p : ℕ} → Relatable s marks named taken single m a k p work → length after ≡ length work → Relatable s marks named taken single m a 0 p after

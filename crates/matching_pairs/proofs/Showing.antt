@@ -134,12 +134,15 @@ module _ {J : Tables} (pass : TablesPass J) {e : ℕ} (h : e < nodesOf (J .insta
       distinct = attributes-distinct (pass .nodes) e h counted a same;
       clean = stripped-clean L (itemAt (J .strings) items texts) (bit w) (λ k b. and-right (ltb k n) (notWhitespace L (itemAt (J .strings) items texts k)) (sym (solid-at c blank right solid k) ∙ b));
       ordered = children-ok J (pass .strings) (pass .nodes) e;
-      content = λ p. (λ m. inl (subst (λ (A : Attributes). Span L N A (itemAt (J .strings) items texts) (bit w) p 0 (length items)) (sym same) (told p .0 m)), ⊎-elim (λ m. told p .1 (subst (λ (A : Attributes). Span L N A (itemAt (J .strings) items texts) (bit w) p 0 (length items)) same m)) (λ m. absurd (false≢true (m .0))));
+      content = λ d i. (
+        λ m. inl (subst (λ (A : Attributes). Span L N A (itemAt (J .strings) items texts) (bit w) (L .content d) 0 (length items)) (sym same) (told d i .0 m)),
+        ⊎-elim (λ m. told d i .1 (subst (λ (A : Attributes). Span L N A (itemAt (J .strings) items texts) (bit w) (L .content d) 0 (length items)) same m)) (λ m. absurd (false≢true (m .0))),
+      );
     }
       where
-        told : (p : ℕ) → WeakMatch L N (L .attributes e) (L .children e) (L .pattern p) ↔ Span L N (L .attributes e) (itemAt (J .strings) items texts) (bit w) p 0 (length items)
-        told p =
-            weak-span L N (L .attributes e) (restricted J (pass .schema)) p (children-ok J (pass .strings) (pass .nodes) e) (has-element c f) (itemAt (J .strings) items texts) (bit w) (length items)
+        told : (d : ℕ) → L .isDefinition d ≡ true → WeakMatch L N (L .attributes e) (L .children e) (L .pattern (L .content d)) ↔ Span L N (L .attributes e) (itemAt (J .strings) items texts) (bit w) (L .content d) 0 (length items)
+        told d i =
+            weak-span L N (L .attributes e) (L .content d) (restricted J (pass .schema) .contents d i) (children-ok J (pass .strings) (pass .nodes) e) (has-element c f) (itemAt (J .strings) items texts) (bit w) (length items)
             (rw size at (run-contents c (J .strings) (J .schema) (notWhitespace L) w (solid-at c blank right solid)))
 
     -- a string that stands for the content: it alone, or where it is whitespace nothing
@@ -193,7 +196,9 @@ module _ {J : Tables} (pass : TablesPass J) {e : ℕ} (h : e < nodesOf (J .insta
       distinct = attributes-distinct (pass .nodes) e h counted a same;
       clean = strings-clean L it (bit 1) (λ k y b m. no-string k y (eqb-true k 0 (sym (bit-pow 0 k) ∙ b)) m);
       ordered = children-ok J (pass .strings) (pass .nodes) e;
-      content = λ p. (λ m. ⊎-elim (λ d. inl (whole p .1 d)) (λ d. inr (blank-told ∙ d .0, none p .1 (d .1))) (stands p .0 m), ⊎-elim (λ d. stands p .1 (inl (whole p .0 d))) (λ d. stands p .1 (inr (sym blank-told ∙ d .0, none p .0 (d .1)))));
+      content = λ d i.
+          let p = L .content d in
+          (λ m. ⊎-elim (λ x. inl (whole p .1 x)) (λ x. inr (blank-told ∙ x .0, none p .1 (x .1))) (stands p .0 m), ⊎-elim (λ x. stands p .1 (inl (whole p .0 x))) (λ x. stands p .1 (inr (sym blank-told ∙ x .0, none p .0 (x .1)))));
     }
       where
         it : ℕ → Item

@@ -50,9 +50,10 @@ pub record Shown (J : Tables) (items : List ℕ) (e attributes texts a k : ℕ) 
   pub distinct : Distinct (lookups J) (attributesIn e a)
   pub clean : CleanAt (lookups J) (itemAt (J .strings) items texts) (bit k)
   pub ordered : OkAsChildren (lookups J .children e)
-  pub content : (p : ℕ) → WeakMatch (lookups J) (NotMatchBy (lookups J) (rowsOf (J .schema))) (lookups J .attributes e) (lookups J .children e) (lookups J .pattern p)
-      ↔ (Span (lookups J) (NotMatchBy (lookups J) (rowsOf (J .schema))) (attributesIn e a) (itemAt (J .strings) items texts) (bit k) p 0 (length items)
-      ⊎ ((weak ≡ true) × Span (lookups J) (NotMatchBy (lookups J) (rowsOf (J .schema))) (attributesIn e a) (itemAt (J .strings) items texts) (bit 0) p 0 (length items)))
+  pub content : (d : ℕ) → lookups J .isDefinition d ≡ true
+      → WeakMatch (lookups J) (NotMatchBy (lookups J) (rowsOf (J .schema))) (lookups J .attributes e) (lookups J .children e) (lookups J .pattern (lookups J .content d))
+      ↔ (Span (lookups J) (NotMatchBy (lookups J) (rowsOf (J .schema))) (attributesIn e a) (itemAt (J .strings) items texts) (bit k) (lookups J .content d) 0 (length items)
+      ⊎ ((weak ≡ true) × Span (lookups J) (NotMatchBy (lookups J) (rowsOf (J .schema))) (attributesIn e a) (itemAt (J .strings) items texts) (bit 0) (lookups J .content d) 0 (length items)))
 
 -- the row of element e is right
 pub record RowRight (J : Tables) (before after : List ℕ) (e : ℕ) : Type 0 where

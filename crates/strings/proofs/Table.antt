@@ -30,6 +30,9 @@ module _ {T : StringTable} (front : (k : ℕ) → ¬ FrontFault T k) where
   pub few-strings : length (T .ends) ≤ maxStrings
   few-strings = not-less (λ h. front 0 (too-many-strings h refl))
 
+  pub few-bytes : length (T .bytes) ≤ maxBytes
+  few-bytes = not-less (λ h. front 0 (too-many-bytes h refl))
+
   -- the ends before n are right if none of them falls and the last one, if it is among them, is the byte count
   pub ends-right : (n : ℕ) → Clear (Falls (T .ends)) n → ((k : ℕ) → k < n → suc k ≡ length (T .ends) → endOf (T .ends) k ≡ length (T .bytes)) → Clear (EndFault T) n
   ends-right n rise last k h (at-front f) = front k f

@@ -49,7 +49,7 @@ same-length-4 : tie.Need-same-length-4
 same-length-4 c = search needs
 
 returns-4 : tie.Need-returns-4
-returns-4 c = let rest = c .before .before .before .before .before .match .rest in answers-nothing _ _ _ (c .before .before .before .before .before .before .kind .ensures) (c .before .before .before .before .before .before .before .word .ensures) (rest .0 .0 .0 .1) (rest .0 .0 .1) (λ e. ⊎-elim (λ x. omega arith) (λ x. omega arith) (c .before .before .before .before .if1 .came)) (λ e. ⊎-elim (λ x. omega arith) (λ x. omega arith) (c .before .before .before .before .if1 .came)) (rest .0 .1) (rest .1) (c .before .before .clear .ensures .0)
+returns-4 c = let rest = c .before .before .before .before .before .match .rest in answers-nothing _ _ _ (c .before .before .before .before .before .before .kind .ensures) (c .before .before .before .before .before .before .before .word .ensures) (rest .0 .0 .0 .1) (rest .0 .0 .1) (λ e. ⊎-elim (λ x. omega arith) (λ x. omega arith) (c .before .before .before .before .if1 .came)) (λ e. ⊎-elim (λ x. omega arith) (λ x. omega arith) (c .before .before .before .before .if1 .came)) (λ e. ⊎-elim (λ x. omega arith) (λ x. omega arith) (c .before .before .before .before .if1 .came)) (rest .0 .1) (rest .1) (c .before .before .clear .ensures .0)
 
 same-length-5 : tie.Need-same-length-5
 same-length-5 c = search needs

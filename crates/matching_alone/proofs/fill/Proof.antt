@@ -15,7 +15,7 @@ fill-rows-requires : tie.Need-fill-rows-requires
 fill-rows-requires c κs =
     let r = c .before .before .before .before .before .before .before .before .before .before .before .before .pre in
     let few = few-rows (right-size (r .passes .rows)) in
-    (few, r .few-strings, r .long-alone, r .long-nothing)
+    (few, r .few-bytes, r .few-strings, r .long-alone, r .long-nothing, r .passes)
 
 same-length : tie.Need-same-length
 same-length c = search needs
@@ -27,7 +27,7 @@ same-length-3 : tie.Need-same-length-3
 same-length-3 c = search needs
 
 returns : tie.Need-returns
-returns c = record { entries = c .before .before .before .before .fill-rows .ensures (c .before .before .before .before .before .before .before .before .before .before .before .before .before .before .before .before .before .pre .passes); blanks = c .before .before .before .before .before .before .before .before .before .fill-blank .ensures }
+returns c = record { entries = c .before .before .before .before .fill-rows .ensures; blanks = c .before .before .before .before .before .before .before .before .before .fill-blank .ensures }
 
 pub fill-spec : {M : Type 1} → statement M
 fill-spec = tie.close (tie.spec fill-blank-requires cast-fill-rows fill-rows-requires same-length same-length-2 same-length-3 returns)

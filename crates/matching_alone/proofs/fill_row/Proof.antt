@@ -1,6 +1,6 @@
 -- One law a kind.
 use Rattle.tables.specs.Tables.{stringTable}
-use Rattle.matching_alone.proofs.RowKinds.{made-text, made-data, made-oneOrMore, made-choice, made-group, made-interleave, made-rest}
+use Rattle.matching_alone.proofs.RowKinds.{made-text, made-data, made-list, made-oneOrMore, made-choice, made-group, made-interleave, made-rest}
 use mathlib.Core.Path.{sym, _∙_}
 use denote.Ref.{now}
 use borrow.Author.Needs.{needs}
@@ -24,6 +24,11 @@ fill-data-requires c κs = search needs
 
 fill-value-requires : tie.Need-fill-value-requires
 fill-value-requires c κs = search needs
+
+fill-list-requires : tie.Need-fill-list-requires
+fill-list-requires c κs =
+    let pre = c .before .before .before .before .before .before .before .before .before .before .before .pre in
+    (pre .0, pre .2, record { row = pre .4; is-list = sym (c .before .before .before .before .kind .ensures) ∙ c .before .match .keys4; field = c .before .before .before .field-a .ensures })
 
 fill-either-requires : tie.Need-fill-either-requires
 fill-either-requires c κs = search needs
@@ -62,31 +67,37 @@ same-length-4 : tie.Need-same-length-4
 same-length-4 c = search needs
 
 returns-4 : tie.Need-returns-4
-returns-4 c = made-oneOrMore (stringTable (now (c .before .before .before .before .before .before .before .before .before .before .before .before .before .before .args .bytes)) (now (c .before .before .before .before .before .before .before .before .before .before .before .before .before .before .args .ends))) (now (c .before .before .before .before .before .before .before .before .before .before .before .before .before .before .args .schema)) (now (c .before .before .before .before .before .before .before .before .before .before .before .before .before .before .args .alone)) (now (c .before .before .before .before .before .before .before .before .before .before .before .before .before .before .args .nothing)) (c .before .before .before .before .before .before .before .before .before .before .before .before .before .before .args .p) (c .before .before .before .before .before .before .field-a .ensures) (c .before .before .before .before .before .field-b .ensures) (sym (c .before .before .before .before .before .before .before .kind .ensures) ∙ c .before .before .before .before .match .keys4) (c .before .before .fill-either .ensures)
+returns-4 c = made-list (stringTable (now (c .before .before .before .before .before .before .before .before .before .before .before .before .before .before .args .bytes)) (now (c .before .before .before .before .before .before .before .before .before .before .before .before .before .before .args .ends))) (now (c .before .before .before .before .before .before .before .before .before .before .before .before .before .before .args .schema)) (now (c .before .before .before .before .before .before .before .before .before .before .before .before .before .before .args .alone)) (now (c .before .before .before .before .before .before .before .before .before .before .before .before .before .before .args .nothing)) (c .before .before .before .before .before .before .before .before .before .before .before .before .before .before .args .p) (c .before .before .before .before .before .before .field-a .ensures) (c .before .before .before .before .before .field-b .ensures) (sym (c .before .before .before .before .before .before .before .kind .ensures) ∙ c .before .before .before .before .match .keys4) (c .before .before .fill-list .ensures)
 
 same-length-5 : tie.Need-same-length-5
 same-length-5 c = search needs
 
 returns-5 : tie.Need-returns-5
-returns-5 c = made-choice (stringTable (now (c .before .before .before .before .before .before .before .before .before .before .before .before .before .before .args .bytes)) (now (c .before .before .before .before .before .before .before .before .before .before .before .before .before .before .args .ends))) (now (c .before .before .before .before .before .before .before .before .before .before .before .before .before .before .args .schema)) (now (c .before .before .before .before .before .before .before .before .before .before .before .before .before .before .args .alone)) (now (c .before .before .before .before .before .before .before .before .before .before .before .before .before .before .args .nothing)) (c .before .before .before .before .before .before .before .before .before .before .before .before .before .before .args .p) (c .before .before .before .before .before .before .field-a .ensures) (c .before .before .before .before .before .field-b .ensures) (sym (c .before .before .before .before .before .before .before .kind .ensures) ∙ c .before .before .before .before .match .keys5) (c .before .before .fill-either2 .ensures)
+returns-5 c = made-oneOrMore (stringTable (now (c .before .before .before .before .before .before .before .before .before .before .before .before .before .before .args .bytes)) (now (c .before .before .before .before .before .before .before .before .before .before .before .before .before .before .args .ends))) (now (c .before .before .before .before .before .before .before .before .before .before .before .before .before .before .args .schema)) (now (c .before .before .before .before .before .before .before .before .before .before .before .before .before .before .args .alone)) (now (c .before .before .before .before .before .before .before .before .before .before .before .before .before .before .args .nothing)) (c .before .before .before .before .before .before .before .before .before .before .before .before .before .before .args .p) (c .before .before .before .before .before .before .field-a .ensures) (c .before .before .before .before .before .field-b .ensures) (sym (c .before .before .before .before .before .before .before .kind .ensures) ∙ c .before .before .before .before .match .keys5) (c .before .before .fill-either .ensures)
 
 same-length-6 : tie.Need-same-length-6
 same-length-6 c = search needs
 
 returns-6 : tie.Need-returns-6
-returns-6 c = made-group (stringTable (now (c .before .before .before .before .before .before .before .before .before .before .before .before .before .before .args .bytes)) (now (c .before .before .before .before .before .before .before .before .before .before .before .before .before .before .args .ends))) (now (c .before .before .before .before .before .before .before .before .before .before .before .before .before .before .args .schema)) (now (c .before .before .before .before .before .before .before .before .before .before .before .before .before .before .args .alone)) (now (c .before .before .before .before .before .before .before .before .before .before .before .before .before .before .args .nothing)) (c .before .before .before .before .before .before .before .before .before .before .before .before .before .before .args .p) (c .before .before .before .before .before .before .field-a .ensures) (c .before .before .before .before .before .field-b .ensures) (sym (c .before .before .before .before .before .before .before .kind .ensures) ∙ c .before .before .before .before .match .keys6) (c .before .before .fill-one .ensures)
+returns-6 c = made-choice (stringTable (now (c .before .before .before .before .before .before .before .before .before .before .before .before .before .before .args .bytes)) (now (c .before .before .before .before .before .before .before .before .before .before .before .before .before .before .args .ends))) (now (c .before .before .before .before .before .before .before .before .before .before .before .before .before .before .args .schema)) (now (c .before .before .before .before .before .before .before .before .before .before .before .before .before .before .args .alone)) (now (c .before .before .before .before .before .before .before .before .before .before .before .before .before .before .args .nothing)) (c .before .before .before .before .before .before .before .before .before .before .before .before .before .before .args .p) (c .before .before .before .before .before .before .field-a .ensures) (c .before .before .before .before .before .field-b .ensures) (sym (c .before .before .before .before .before .before .before .kind .ensures) ∙ c .before .before .before .before .match .keys6) (c .before .before .fill-either2 .ensures)
 
 same-length-7 : tie.Need-same-length-7
 same-length-7 c = search needs
 
 returns-7 : tie.Need-returns-7
-returns-7 c = made-interleave (stringTable (now (c .before .before .before .before .before .before .before .before .before .before .before .before .before .before .args .bytes)) (now (c .before .before .before .before .before .before .before .before .before .before .before .before .before .before .args .ends))) (now (c .before .before .before .before .before .before .before .before .before .before .before .before .before .before .args .schema)) (now (c .before .before .before .before .before .before .before .before .before .before .before .before .before .before .args .alone)) (now (c .before .before .before .before .before .before .before .before .before .before .before .before .before .before .args .nothing)) (c .before .before .before .before .before .before .before .before .before .before .before .before .before .before .args .p) (c .before .before .before .before .before .before .field-a .ensures) (c .before .before .before .before .before .field-b .ensures) (sym (c .before .before .before .before .before .before .before .kind .ensures) ∙ c .before .before .before .before .match .keys7) (c .before .before .fill-one2 .ensures)
+returns-7 c = made-group (stringTable (now (c .before .before .before .before .before .before .before .before .before .before .before .before .before .before .args .bytes)) (now (c .before .before .before .before .before .before .before .before .before .before .before .before .before .before .args .ends))) (now (c .before .before .before .before .before .before .before .before .before .before .before .before .before .before .args .schema)) (now (c .before .before .before .before .before .before .before .before .before .before .before .before .before .before .args .alone)) (now (c .before .before .before .before .before .before .before .before .before .before .before .before .before .before .args .nothing)) (c .before .before .before .before .before .before .before .before .before .before .before .before .before .before .args .p) (c .before .before .before .before .before .before .field-a .ensures) (c .before .before .before .before .before .field-b .ensures) (sym (c .before .before .before .before .before .before .before .kind .ensures) ∙ c .before .before .before .before .match .keys7) (c .before .before .fill-one .ensures)
 
 same-length-8 : tie.Need-same-length-8
 same-length-8 c = search needs
 
 returns-8 : tie.Need-returns-8
-returns-8 c = made-rest (stringTable (now (c .before .before .before .before .before .before .before .before .before .before .before .before .before .before .args .bytes)) (now (c .before .before .before .before .before .before .before .before .before .before .before .before .before .before .args .ends))) (now (c .before .before .before .before .before .before .before .before .before .before .before .before .before .before .args .schema)) (now (c .before .before .before .before .before .before .before .before .before .before .before .before .before .before .args .alone)) (now (c .before .before .before .before .before .before .before .before .before .before .before .before .before .before .args .nothing)) (c .before .before .before .before .before .before .before .before .before .before .before .before .before .before .args .p) (record { no-text = (λ e. c .before .before .before .before .match .rest .0 .0 .0 .0 .0 .0 .1 (c .before .before .before .before .before .before .before .kind .ensures ∙ e)); no-repeat = (λ e. c .before .before .before .before .match .rest .0 .0 .0 .1 (c .before .before .before .before .before .before .before .kind .ensures ∙ e)); no-choice = (λ e. c .before .before .before .before .match .rest .0 .0 .1 (c .before .before .before .before .before .before .before .kind .ensures ∙ e)); no-group = (λ e. c .before .before .before .before .match .rest .0 .1 (c .before .before .before .before .before .before .before .kind .ensures ∙ e)); no-interleave = (λ e. c .before .before .before .before .match .rest .1 (c .before .before .before .before .before .before .before .kind .ensures ∙ e)) }) (λ e. c .before .before .before .before .match .rest .0 .0 .0 .0 .0 .1 (c .before .before .before .before .before .before .before .kind .ensures ∙ e)) (λ e. c .before .before .before .before .match .rest .0 .0 .0 .0 .1 (c .before .before .before .before .before .before .before .kind .ensures ∙ e)) (c .before .before .fill-same2 .ensures)
+returns-8 c = made-interleave (stringTable (now (c .before .before .before .before .before .before .before .before .before .before .before .before .before .before .args .bytes)) (now (c .before .before .before .before .before .before .before .before .before .before .before .before .before .before .args .ends))) (now (c .before .before .before .before .before .before .before .before .before .before .before .before .before .before .args .schema)) (now (c .before .before .before .before .before .before .before .before .before .before .before .before .before .before .args .alone)) (now (c .before .before .before .before .before .before .before .before .before .before .before .before .before .before .args .nothing)) (c .before .before .before .before .before .before .before .before .before .before .before .before .before .before .args .p) (c .before .before .before .before .before .before .field-a .ensures) (c .before .before .before .before .before .field-b .ensures) (sym (c .before .before .before .before .before .before .before .kind .ensures) ∙ c .before .before .before .before .match .keys8) (c .before .before .fill-one2 .ensures)
+
+same-length-9 : tie.Need-same-length-9
+same-length-9 c = search needs
+
+returns-9 : tie.Need-returns-9
+returns-9 c = made-rest (stringTable (now (c .before .before .before .before .before .before .before .before .before .before .before .before .before .before .args .bytes)) (now (c .before .before .before .before .before .before .before .before .before .before .before .before .before .before .args .ends))) (now (c .before .before .before .before .before .before .before .before .before .before .before .before .before .before .args .schema)) (now (c .before .before .before .before .before .before .before .before .before .before .before .before .before .before .args .alone)) (now (c .before .before .before .before .before .before .before .before .before .before .before .before .before .before .args .nothing)) (c .before .before .before .before .before .before .before .before .before .before .before .before .before .before .args .p) (record { no-text = (λ e. c .before .before .before .before .match .rest .0 .0 .0 .0 .0 .0 .0 .1 (c .before .before .before .before .before .before .before .kind .ensures ∙ e)); no-repeat = (λ e. c .before .before .before .before .match .rest .0 .0 .0 .1 (c .before .before .before .before .before .before .before .kind .ensures ∙ e)); no-choice = (λ e. c .before .before .before .before .match .rest .0 .0 .1 (c .before .before .before .before .before .before .before .kind .ensures ∙ e)); no-group = (λ e. c .before .before .before .before .match .rest .0 .1 (c .before .before .before .before .before .before .before .kind .ensures ∙ e)); no-interleave = (λ e. c .before .before .before .before .match .rest .1 (c .before .before .before .before .before .before .before .kind .ensures ∙ e)) }) (λ e. c .before .before .before .before .match .rest .0 .0 .0 .0 .0 .0 .1 (c .before .before .before .before .before .before .before .kind .ensures ∙ e)) (λ e. c .before .before .before .before .match .rest .0 .0 .0 .0 .0 .1 (c .before .before .before .before .before .before .before .kind .ensures ∙ e)) (λ e. c .before .before .before .before .match .rest .0 .0 .0 .0 .1 (c .before .before .before .before .before .before .before .kind .ensures ∙ e)) (c .before .before .fill-same2 .ensures)
 
 pub fill-row-spec : {M : Type 1} → statement M
 fill-row-spec =
@@ -98,6 +109,7 @@ fill-row-spec =
     fill-same-requires
     fill-data-requires
     fill-value-requires
+    fill-list-requires
     fill-either-requires
     fill-either-requires-2
     fill-one-requires
@@ -118,4 +130,6 @@ fill-row-spec =
     same-length-7
     returns-7
     same-length-8
-    returns-8)
+    returns-8
+    same-length-9
+    returns-9)

@@ -6,7 +6,7 @@ use native.Mathlib.Omega.{arith}
 use lib.ListN.{length, replicate, length-replicate}
 use lib.Seq.{length-take-le}
 use Rattle.strings.specs.Strings.{at-front}
-use Rattle.strings.proofs.Table.{ends-of, few-strings}
+use Rattle.strings.proofs.Table.{ends-of, few-bytes, few-strings}
 use Rattle.schema.proofs.RowLaws.{few-rows, right-size}
 use Rattle.instance.specs.NodeRule.{bad-size}
 use Rattle.instance.proofs.Size.{few-nodes}
@@ -34,7 +34,7 @@ slice-aggregate-fill-3 c = search needs
 fill-requires : tie.Need-fill-requires
 fill-requires c κs =
     let pass = c .before .before .before .before .before .before .before .before .before .before .before .before .pre .pass in
-    record { passes = pass .schema; few-strings = few-strings (λ k x. ends-of (pass .strings) k (at-front x)); long-alone = whole; long-nothing = omega arith; long-blank = omega arith }
+    record { passes = pass .schema; few-bytes = few-bytes (λ k x. ends-of (pass .strings) k (at-front x)); few-strings = few-strings (λ k x. ends-of (pass .strings) k (at-front x)); long-alone = whole; long-nothing = omega arith; long-blank = omega arith }
 
 slice-aggregate-definitions : tie.Need-slice-aggregate-definitions
 slice-aggregate-definitions c = search needs
