@@ -2,7 +2,8 @@
 -- instance.
 use Prim.Native.Nat.{ℕ, _*_, _≤_}
 use mathlib.Core.Path.{_≡_, refl, sym, _∙_, ap, subst}
-use mathlib.Core.Bool.{Bool, true, false}
+use mathlib.Core.Bool.{Bool, true, false, cond}
+use mathlib.Core.Logic.{_⊎_, inl, inr, ⊎-elim}
 use mathlib.Core.List.{List}
 use native.Mathlib.Omega.{arith}
 use lib.ListN.{length}
@@ -27,7 +28,8 @@ use Rattle.matching_list.specs.MatchList.{MatchList, ListWritten, ListAnswer}
 use Rattle.matching_list.specs.declared.Answer.{Answer}
 use Rattle.matching_list.specs.declared.Answer.the-variants as answer
 use Rattle.relaxng.specs.Promises.{SchemaRefusal}
-use Rattle.relaxng.specs.Matching.{InstanceRefusal, GivesVerdict, ListTooShort, ListsMatches}
+use Rattle.matching_work.specs.Work.{WorkTooShort}
+use Rattle.relaxng.specs.Matching.{InstanceRefusal, WorkShort, WorkRefusal, GivesVerdict, ListTooShort, BufferShort, ListsMatches}
 use Rattle.relaxng.specs.Answers.{matchVerdict, isMatched, pairCount, validationOf, matchAnswer}
 use Rattle.relaxng.specs.declared.Validation.{Validation}
 use Rattle.relaxng.specs.declared.Validation.the-variants.{NotValidated}
@@ -57,45 +59,68 @@ module _ {J : Tables} where
   pub instance-coded : {next : Verdict → Type 0} {v : Verdict} → (next v → Coded v) → InstanceRefusal J next v → Coded v
   instance-coded f = schema-coded (tries-coded (omega arith) (tries-coded (omega arith) f))
 
-  -- a refusal stands whatever comes after, and tables that pass leave the rest to that
-  module _ {next : Verdict → Type 0} where
-    pub instance-refused : {v : Verdict} {code place : ℕ} → v ≡ Refused code place → InstanceRefusal J Passes v → InstanceRefusal J next v
-    instance-refused {v} e = tries-map (tries-map (tries-map (tries-map (tries-map (tries-map (tries-map (tries-map (tries-map (tries-map never)))))))))
+  -- what comes after code 10 may be replaced: for a verdict that has it, and, where the tables pass, for any other
+  -- verdict
+  module _ {next next′ : Verdict → Type 0} where
+    instance-map : {v : Verdict} → (next v → next′ v) → InstanceRefusal J next v → InstanceRefusal J next′ v
+    instance-map f = tries-map (tries-map (tries-map (tries-map (tries-map (tries-map (tries-map (tries-map (tries-map (tries-map f)))))))))
+
+    instance-go : {v w : Verdict} → v ≡ Passed → InstanceRefusal J next v → (next Passed → next′ w) → InstanceRefusal J next′ w
+    instance-go {w = w} e r f = go (subst (InstanceRefusal J next) e r)
       where
-        never : v ≡ Passed → next v
-        never p = absurd (refused-passed (sym e ∙ p))
+        go : InstanceRefusal J next Passed → InstanceRefusal J next′ w
+        go = tries-go (tries-go (tries-go (tries-go (tries-go (tries-go (tries-go (tries-go (tries-go (tries-go f)))))))))
 
-    pub instance-passed : {v w : Verdict} → v ≡ Passed → InstanceRefusal J Passes v → next w → InstanceRefusal J next w
-    instance-passed {v} {w} e r x = go (subst (InstanceRefusal J Passes) e r)
+  tables-of : {next : Verdict → Type 0} → InstanceRefusal J next Passed → TablesPass J × next Passed
+  tables-of (goes-on strings (goes-on rows (goes-on places (goes-on names (goes-on paths (goes-on sequences (goes-on attributes (goes-on interleaves (goes-on nodes (goes-on width x)))))))))) = (
+    record {
+      strings = strings;
+      schema = record { rows = rows; places = places; names = names; paths = paths; sequences = sequences; attributes = attributes; interleaves = interleaves };
+      nodes = nodes;
+      narrow = width;
+    },
+    x,
+  )
+
+  -- tables that pass
+  pub tables-pass : {next : Verdict → Type 0} {v : Verdict} → v ≡ Passed → InstanceRefusal J next v → TablesPass J
+  tables-pass {next} e r = tables-of (subst (InstanceRefusal J next) e r) .0
+
+  -- ---- code 12 for the work buffer
+
+  module _ (work : ℕ) where
+    pub work-refused : {v : Verdict} {code place : ℕ} → v ≡ Refused code place → InstanceRefusal J Passes v → WorkRefusal J work v
+    work-refused e = instance-map (λ p. absurd (refused-passed (sym e ∙ p)))
+
+    pub work-judged : {v w : Verdict} → v ≡ Passed → InstanceRefusal J Passes v → (short : Bool) → Decides (WorkTooShort J work) short → w ≡ cond short (Refused 12 0) Passed → WorkRefusal J work w
+    work-judged e r true d f = instance-go e r (λ p. rw f (refused 0 (refl, d) (λ i h. absurd (omega arith))))
+    work-judged e r false d f = instance-go e r (λ p. goes-on (λ i x. d (x .1)) f)
+
+    -- where nothing is refused the buffer is long enough
+    work-enough : {v : Verdict} → v ≡ Passed → WorkRefusal J work v → (i : ℕ) → ¬ WorkShort J work i
+    work-enough e r = enough (tables-of (subst (WorkRefusal J work) e r) .1)
       where
-        go : InstanceRefusal J Passes Passed → InstanceRefusal J next w
-        go = tries-go (tries-go (tries-go (tries-go (tries-go (tries-go (tries-go (tries-go (tries-go (tries-go (λ p. x))))))))))
+        enough : Tries 12 (WorkShort J work) Passes Passed → (i : ℕ) → ¬ WorkShort J work i
+        enough (goes-on n x) = n
 
-  tables-of : InstanceRefusal J Passes Passed → TablesPass J
-  tables-of (goes-on strings (goes-on rows (goes-on places (goes-on names (goes-on paths (goes-on sequences (goes-on attributes (goes-on interleaves (goes-on nodes (goes-on width e)))))))))) = record {
-    strings = strings;
-    schema = record { rows = rows; places = places; names = names; paths = paths; sequences = sequences; attributes = attributes; interleaves = interleaves };
-    nodes = nodes;
-    narrow = width;
-  }
+    work-coded : {v : Verdict} → WorkRefusal J work v → Coded v
+    work-coded = instance-coded (tries-coded (omega arith) passes-coded)
 
-  pub tables-pass : {v : Verdict} → v ≡ Passed → InstanceRefusal J Passes v → TablesPass J
-  tables-pass e r = tables-of (subst (InstanceRefusal J Passes) e r)
+    -- ---- the verdict
 
-  -- ---- the verdict
+    module _ {after : List ℕ} (z : after ≡ zeros work) where
+      pub refused-verdict : {v : Verdict} {code place a b : ℕ} {x : Validation} → WorkRefusal J work v → v ≡ Refused code place → a ≡ codeOf v → b ≡ placeOf v → x ≡ NotValidated a b → GivesVerdict J work after x
+      refused-verdict {a = a} {b = b} r e f g h =
+          let same : WorkRefusal J work (Refused a b) = subst (WorkRefusal J work) (refused-same e f g) r in
+          let coded = work-coded same in
+          rw h (record { refusal = same; answer = λ y. let q = y .0 in omega arith; cleared = z })
 
-  pub refused-verdict : {v : Verdict} {code place a b : ℕ} {x : Validation} → InstanceRefusal J Passes v → v ≡ Refused code place → a ≡ codeOf v → b ≡ placeOf v → x ≡ NotValidated a b → GivesVerdict J x
-  refused-verdict {a = a} {b = b} r e f g h =
-      let same : InstanceRefusal J Passes (Refused a b) = subst (InstanceRefusal J Passes) (refused-same e f g) r in
-      let coded = instance-coded passes-coded same in
-      rw h (record { refusal = same; answer = λ z. let q = z .0 in omega arith })
-
-  pub whole-verdict : {v : Verdict} → InstanceRefusal J Passes v → v ≡ Passed → (valid : Bool) {a : Validation} → Decides (Valid J) valid → a ≡ validationOf valid → GivesVerdict J a
-  whole-verdict {v} r e valid d f = rw f (go valid d)
-    where
-      go : (valid : Bool) → Decides (Valid J) valid → GivesVerdict J (validationOf valid)
-      go true d = record { refusal = subst (InstanceRefusal J Passes) e r; answer = (refl, d) }
-      go false d = record { refusal = subst (InstanceRefusal J Passes) e r; answer = λ z. d (z .1) }
+      pub whole-verdict : {v : Verdict} → WorkRefusal J work v → v ≡ Passed → (valid : Bool) {a : Validation} → Decides (Valid J) valid → a ≡ validationOf valid → GivesVerdict J work after a
+      whole-verdict {v} r e valid d f = rw f (go valid d)
+        where
+          go : (valid : Bool) → Decides (Valid J) valid → GivesVerdict J work after (validationOf valid)
+          go true d = record { refusal = subst (WorkRefusal J work) e r; answer = (refl, d); cleared = z }
+          go false d = record { refusal = subst (WorkRefusal J work) e r; answer = λ y. d (y .1); cleared = z }
 
 -- ---- the answers of the call for the match list
 
@@ -107,31 +132,38 @@ no-shorter all fit i x =
     let z = x .3 in
     omega arith
 
-module _ {J : Tables} {v : Verdict} (r : InstanceRefusal J Passes v) (room : ℕ) {list : List ℕ} where
-  -- codes 1 to 10
-  pub refused-list : {code place c p : ℕ} {a : MatchAnswer} → v ≡ Refused code place → c ≡ codeOf v → p ≡ placeOf v → a ≡ NotMatched c p → list ≡ zeros room → ListsMatches J room list a
+-- a work buffer that is too short refuses, whatever the list is
+short-either : {J : Tables} {room work : ℕ} {v : Verdict} {code place : ℕ} → v ≡ Refused code place → Tries 12 (WorkShort J work) Passes v → Tries 12 (BufferShort J room work) Passes v
+short-either e (refused p x c) = refused p (inl x) (λ i h. absurd (omega (arith, x .0)))
+short-either e (goes-on n p) = absurd (refused-passed (sym e ∙ p))
+
+module _ {J : Tables} (room work : ℕ) {v : Verdict} (r : WorkRefusal J work v) {list after : List ℕ} (cleared : after ≡ zeros work) where
+  -- codes 1 to 10, and 12 for the work buffer
+  pub refused-list : {code place c p : ℕ} {a : MatchAnswer} → v ≡ Refused code place → c ≡ codeOf v → p ≡ placeOf v → a ≡ NotMatched c p → list ≡ zeros room → ListsMatches J room work list after a
   refused-list {c = c} {p = p} e f g h z =
-      let same : InstanceRefusal J (Tries 12 (ListTooShort J room) Passes) (Refused c p) = subst (InstanceRefusal J (Tries 12 (ListTooShort J room) Passes)) (refused-same e f g) (instance-refused e r) in
+      let same : InstanceRefusal J (Tries 12 (BufferShort J room work) Passes) (Refused c p) = subst (InstanceRefusal J (Tries 12 (BufferShort J room work) Passes)) (refused-same e f g) (instance-map (short-either e) r) in
       let coded = instance-coded (tries-coded (omega arith) passes-coded) same in
-      rw h (record { refusal = same; matched = λ q. absurd (omega arith); zeroed = λ n. z })
+      rw h (record { refusal = same; matched = λ q. absurd (omega arith); zeroed = λ n. z; cleared = cleared })
 
   module _ (e : v ≡ Passed) where
-    passed-list : (a : MatchAnswer) → matchVerdict a ≡ Passed → {l : List (ℕ × ℕ)} → MatchList J l → ListWritten J l room list (pairCount a) (isMatched a) → ListsMatches J room list a
+    passed-list : (a : MatchAnswer) → matchVerdict a ≡ Passed → {l : List (ℕ × ℕ)} → MatchList J l → ListWritten J l room list (pairCount a) (isMatched a) → ListsMatches J room work list after a
     passed-list a p {l} all w = record {
-      refusal = instance-passed e r (goes-on (no-shorter all (w .fit)) p);
+      refusal = instance-go e r (λ q. goes-on (λ i. ⊎-elim (work-enough work e r i) (no-shorter all (w .fit) i)) p);
       matched = λ q. record { pairs = l; all = all; written = w };
       zeroed = λ n. absurd (n (ap codeOf p));
+      cleared = cleared;
     }
 
-    -- code 12, or nothing is refused
-    pub whole-list : (x : Answer) → ListAnswer J room list x → {a : MatchAnswer} → a ≡ matchAnswer x → ListsMatches J room list a
+    -- code 12 for the list, or nothing is refused
+    pub whole-list : (x : Answer) → ListAnswer J room list x → {a : MatchAnswer} → a ≡ matchAnswer x → ListsMatches J room work list after a
     whole-list x answers f = rw f (go x answers)
       where
-        go : (x : Answer) → ListAnswer J room list x → ListsMatches J room list (matchAnswer x)
+        go : (x : Answer) → ListAnswer J room list x → ListsMatches J room work list after (matchAnswer x)
         go (answer.Valid number) y = passed-list (matches.Valid number) refl (y .all) (y .says)
         go (answer.NotValid number) y = passed-list (matches.NotValid number) refl (y .all) (y .says)
         go answer.TooShort y = record {
-          refusal = instance-passed e r (refused 0 (refl, y .pairs, y .all, y .says .0) (λ i h. absurd (omega arith)));
+          refusal = instance-go e r (λ q. refused 0 (inr (refl, y .pairs, y .all, y .says .0)) (λ i h. absurd (omega arith)));
           matched = λ q. absurd (omega arith);
           zeroed = λ q. y .says .1;
+          cleared = cleared;
         }

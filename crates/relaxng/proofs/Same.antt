@@ -27,7 +27,7 @@ tries-same f (refused p x c) (goes-on n y) = absurd (n p x)
 tries-same f (goes-on n x) (refused q y d) = absurd (n q y)
 tries-same f (goes-on n x) (goes-on m y) = f x y
 
-module _ {J : Tables} {room : ℕ} {l m : List ℕ} {r q : MatchAnswer} (a : ListsMatches J room l r) (b : ListsMatches J room m q) where
+module _ {J : Tables} {room work : ℕ} {l m after after′ : List ℕ} {r q : MatchAnswer} (a : ListsMatches J room work l after r) (b : ListsMatches J room work m after′ q) where
   same-verdict : matchVerdict r ≡ matchVerdict q
   same-verdict = tries-same (tries-same (tries-same (tries-same (tries-same (tries-same (tries-same (tries-same (tries-same (tries-same (tries-same (λ x y. x ∙ sym y))))))))))) (a .refusal) (b .refusal)
 
@@ -42,11 +42,11 @@ module _ {J : Tables} {room : ℕ} {l m : List ℕ} {r q : MatchAnswer} (a : Lis
     same-count = x .written .counted ∙ ap length same-pairs ∙ sym (y .written .counted)
 
 -- a refusal has a code
-coded-code : {J : Tables} {room c p : ℕ} {l : List ℕ} → ListsMatches J room l (NotMatched c p) → c ≢ 0
+coded-code : {J : Tables} {room work c p : ℕ} {l after : List ℕ} → ListsMatches J room work l after (NotMatched c p) → c ≢ 0
 coded-code a e = let h = instance-coded (tries-coded (omega arith) passes-coded) (a .refusal) in omega arith
 
 -- an answer that refuses nothing is its count and valid or not
-pub same-answer : {J : Tables} {room : ℕ} {l m : List ℕ} (r q : MatchAnswer) → ListsMatches J room l r → ListsMatches J room m q → (r ≡ q) × (l ≡ m)
+pub same-answer : {J : Tables} {room work : ℕ} {l m after after′ : List ℕ} (r q : MatchAnswer) → ListsMatches J room work l after r → ListsMatches J room work m after′ q → (r ≡ q) × (l ≡ m)
 same-answer (NotMatched c p) (NotMatched d k) a b =
     let e = same-verdict a b in
     let x : c ≡ d = cc e in

@@ -5,10 +5,11 @@ use tables::Checked;
 use tables::Verdict;
 ghost use mathlib.Core.Path.{_≡_};
 ghost use lib.ListN.{length};
+ghost use Rattle.tables.specs.Outputs.{zeros};
 ghost use Rattle.tables.specs.Refusals.{Passes};
 ghost use Rattle.tables.specs.Tables.{stringTable, tablesOf};
 ghost use Rattle.relaxng.specs.Answers.{commonName, matchAnswer};
-ghost use Rattle.relaxng.specs.Matching.{InstanceRefusal, GivesVerdict, ListsMatches};
+ghost use Rattle.relaxng.specs.Matching.{InstanceRefusal, WorkRefusal, GivesVerdict, ListsMatches};
 ghost use Rattle.relaxng.specs.Promises.{SchemaRefusal, NameInClass, LeastCommonName};
 
 // Whether a name is in a class, or the refusal with its code and place.
@@ -126,11 +127,45 @@ fn instance_verdict(bytes: &[u8], ends: &[u32], schema: &[u32], instance: &[u32]
     tables::refusal(10, instance_nodes::check_width(instance))
 }
 
-// Whether the instance is valid by the schema: codes 1 to 10.
-pub fn verdict(bytes: &[u8], ends: &[u32], schema: &[u32], instance: &[u32]) -> Validation
-    ensures { λ r. ⌜ GivesVerdict (tablesOf (stringTable (now (bytes .entry)) (now (ends .entry))) (now (schema .entry)) (now (instance .entry))) r ⌝ }
+// Whether schema and instance keep their rules, and the work buffer is long enough: codes 1 to 10, then 12. It is left
+// with zeros.
+fn work_verdict(
+    bytes: &[u8],
+    ends: &[u32],
+    schema: &[u32],
+    instance: &[u32],
+    work: &mut [u8],
+) -> Verdict
+    ensures { λ r.
+        ⌜ WorkRefusal (tablesOf (stringTable (now (bytes .entry)) (now (ends .entry))) (now (schema .entry)) (now (instance .entry)))
+        (length (now (work .entry))) r ⌝ }
+    ensures cleared { λ _. ⌜ now (work .exit) ≡ zeros (length (now (work .entry))) ⌝ }
 {
+    let lent = work.len();
+    tables::zero_u8(work);
     let passed = instance_verdict(bytes, ends, schema, instance);
+    let Verdict::Passed = passed else {
+        return passed;
+    };
+    if matching_work::is_short(bytes, ends, schema, instance, lent) {
+        return Verdict::Refused(12, 0);
+    }
+    Verdict::Passed
+}
+
+// Whether the instance is valid by the schema: codes 1 to 10, then 12 for the work buffer, which is left with zeros.
+pub fn verdict(
+    bytes: &[u8],
+    ends: &[u32],
+    schema: &[u32],
+    instance: &[u32],
+    work: &mut [u8],
+) -> Validation
+    ensures { λ r.
+        ⌜ GivesVerdict (tablesOf (stringTable (now (bytes .entry)) (now (ends .entry))) (now (schema .entry)) (now (instance .entry)))
+        (length (now (work .entry))) (now (work .exit)) r ⌝ }
+{
+    let passed = work_verdict(bytes, ends, schema, instance, work);
     let Verdict::Passed = passed else {
         return Validation::NotValidated(tables::code_of(passed), tables::place_of(passed));
     };
@@ -152,19 +187,21 @@ fn matches_of(answer: Answer) -> MatchAnswer
     }
 }
 
-// The match list, with the number of pairs and valid or not: codes 1 to 10, then 12.
+// The match list, with the number of pairs and valid or not: codes 1 to 10, then 12 for the work buffer, which is left
+// with zeros, and for the list.
 pub fn match_list(
     bytes: &[u8],
     ends: &[u32],
     schema: &[u32],
     instance: &[u32],
     list: &mut [u32],
+    work: &mut [u8],
 ) -> MatchAnswer
     ensures { λ r.
         ⌜ ListsMatches (tablesOf (stringTable (now (bytes .entry)) (now (ends .entry))) (now (schema .entry)) (now (instance .entry)))
-        (length (now (list .entry))) (now (list .exit)) r ⌝ }
+        (length (now (list .entry))) (length (now (work .entry))) (now (list .exit)) (now (work .exit)) r ⌝ }
 {
-    let passed = instance_verdict(bytes, ends, schema, instance);
+    let passed = work_verdict(bytes, ends, schema, instance, work);
     let Verdict::Passed = passed else {
         tables::zero_u32(list);
         return MatchAnswer::NotMatched(tables::code_of(passed), tables::place_of(passed));

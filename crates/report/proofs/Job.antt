@@ -26,7 +26,7 @@ use Rattle.tables.specs.Refusals.{codeOf}
 use Rattle.relaxng.specs.Matching.{ListsMatches, Matched}
 use Rattle.relaxng.specs.declared.MatchAnswer.{MatchAnswer}
 use Rattle.job_texts.specs.Writing.{TextIn}
-use Rattle.report.specs.Report.{listRoom, answerText, Reports, not-read, answered, Reported, Answered}
+use Rattle.report.specs.Report.{listRoom, workRoom, answerText, Reports, not-read, answered, Reported, Answered}
 
 -- the tables that the program lends
 abbrev pub lent : Room
@@ -87,19 +87,21 @@ module _ {t : Tables} (l : Limited t) {bytes ends schema instance : List ℕ} (h
   instance-back = rw (h .of-instance, whole-nodes) (front-laid 5120 (t .instance) (let a = l .lengths .of-instance in let b = l .few-nodes in omega arith))
 
 -- the pairs of an answer fit the words that are lent
-pub pairs-fit : {J : Tables} {list : List ℕ} {r : MatchAnswer} {pairs : ℕ} → ListsMatches J listRoom list r → codeOf (matchVerdict r) ≡ 0 → pairCount r ≡ pairs → pairs * 2 ≤ listRoom
+pub pairs-fit : {J : Tables} {list after : List ℕ} {r : MatchAnswer} {pairs : ℕ} → ListsMatches J listRoom workRoom list after r → codeOf (matchVerdict r) ≡ 0 → pairCount r ≡ pairs → pairs * 2 ≤ listRoom
 pairs-fit lists e f =
     let m = lists .matched e in
     let a = m .written .fit in
     let b = m .written .counted in
     omega arith
 
--- the list that is lent has so many words
-pub lent-list : {J : Tables} {list : List ℕ} {r : MatchAnswer} → ListsMatches J (length (zeros listRoom)) list r → ListsMatches J listRoom list r
-lent-list {J} {list} {r} = subst (λ (room : ℕ). ListsMatches J room list r) (length-replicate {A = ℕ} 16384 0)
+-- the list that is lent has so many words, and the work buffer so many bytes
+pub lent-buffers : {J : Tables} {list after : List ℕ} {r : MatchAnswer} → ListsMatches J (length (zeros listRoom)) (length (zeros workRoom)) list after r → ListsMatches J listRoom workRoom list after r
+lent-buffers {J} {list} {after} {r} l =
+    subst (λ (work : ℕ). ListsMatches J listRoom work list after r) (length-replicate {A = ℕ} workRoom 0)
+    (subst (λ (room : ℕ). ListsMatches J room (length (zeros workRoom)) list after r) (length-replicate {A = ℕ} listRoom 0) l)
 
-pub is-answered : {J : Tables} {list out : List ℕ} {room n : ℕ} {r q : MatchAnswer} → ListsMatches J listRoom list r → r ≡ q → TextIn (answerText q list) room out n → Answered J room out n
-is-answered {list = list} {r = r} lists e w = record { list = list; matches = r; lists = lists; written = rw e w }
+pub is-answered : {J : Tables} {list after out : List ℕ} {room n : ℕ} {r q : MatchAnswer} → ListsMatches J listRoom workRoom list after r → r ≡ q → TextIn (answerText q list) room out n → Answered J room out n
+is-answered {list = list} {after = after} {r = r} lists e w = record { list = list; after = after; matches = r; lists = lists; written = rw e w }
 
 -- no more is answered than the output has room for
 text-within : {text out : List ℕ} {room n : ℕ} → TextIn text room out n → n ≤ room
@@ -166,4 +168,4 @@ report-read {file} {b} {s} {r} {n} {bytes} {ends} {schema} {instance} {out} {roo
         let y₂ = ap (λ (k : ℕ). take k ends) x₂ ∙ ends-back l h in
         let y₃ = ap (λ (k : ℕ). take (k * 3) schema) x₃ ∙ schema-back l h in
         let y₄ = ap (λ (k : ℕ). take (k * 5) instance) x₄ ∙ instance-back l h in
-        record { text = answerText (a .matches) (a .list); reports = answered t (a .list) (a .matches) f (rw (y₁, y₂, y₃, y₄) at (a .lists)) refl; written = a .written }
+        record { text = answerText (a .matches) (a .list); reports = answered t (a .list) (a .after) (a .matches) f (rw (y₁, y₂, y₃, y₄) at (a .lists)) refl; written = a .written }

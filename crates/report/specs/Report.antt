@@ -16,6 +16,10 @@ use Rattle.relaxng.specs.declared.MatchAnswer.the-variants.{Valid, NotValid, No
 abbrev pub listRoom : ℕ
 listRoom = 16384
 
+-- and the bytes for work
+abbrev pub workRoom : ℕ
+workRoom = 49155
+
 -- the text of an answer, with the list that came with it
 abbrev pub answerText : MatchAnswer → List ℕ → List ℕ
 answerText (Valid pairs) list = matchText true (take (pairs * 2) list)
@@ -25,7 +29,7 @@ answerText (NotMatched code place) list = refusalText code place
 -- the text of a job file: refused by 13 at its first wrong line, or the answer on the match list of its tables
 pub data Reports (file text : List ℕ) : Type 0 where
   not-read : (line : ℕ) → readJob file ≡ wrong line → text ≡ refusalText 13 line → Reports file text
-  answered : (t : Tables) (list : List ℕ) (r : MatchAnswer) → readJob file ≡ read t → ListsMatches t listRoom list r → text ≡ answerText r list → Reports file text
+  answered : (t : Tables) (list after : List ℕ) (r : MatchAnswer) → readJob file ≡ read t → ListsMatches t listRoom workRoom list after r → text ≡ answerText r list → Reports file text
 
 -- an output of so many bytes holds that text, with zeros after it, and n is its length
 pub record Reported (file : List ℕ) (room : ℕ) (out : List ℕ) (n : ℕ) : Type 0 where
@@ -36,6 +40,7 @@ pub record Reported (file : List ℕ) (room : ℕ) (out : List ℕ) (n : ℕ) : 
 -- the answer on tables, written
 pub record Answered (J : Tables) (room : ℕ) (out : List ℕ) (n : ℕ) : Type 0 where
   pub list : List ℕ
+  pub after : List ℕ
   pub matches : MatchAnswer
-  pub lists : ListsMatches J listRoom list matches
+  pub lists : ListsMatches J listRoom workRoom list after matches
   pub written : TextIn (answerText matches list) room out n

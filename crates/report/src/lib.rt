@@ -24,7 +24,8 @@ fn answer(bytes: &[u8], ends: &[u32], schema: &[u32], instance: &[u32], out: &mu
         (length (now (out .entry))) (now (out .exit)) n ⌝ }
 {
     let mut list = [0u32; 16384];
-    let matches = relaxng::match_list(bytes, ends, schema, instance, &mut list);
+    let mut work = [0u8; 49155];
+    let matches = relaxng::match_list(bytes, ends, schema, instance, &mut list, &mut work);
     match matches {
         MatchAnswer::Valid(pairs) => write_pairs(true, &list, pairs, out),
         MatchAnswer::NotValid(pairs) => write_pairs(false, &list, pairs, out),

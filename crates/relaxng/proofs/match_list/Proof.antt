@@ -1,12 +1,12 @@
--- Codes 1 to 10 leave zeros; then the list and code 12 are told of the tables, which pass.
+-- Codes 1 to 10, and 12 for the work buffer, leave zeros; then the list and code 12 are told of the tables, which pass.
 use mathlib.Core.Path.{refl}
 use Rattle.relaxng.proofs.Matched.{tables-pass, refused-list, whole-list}
 use borrow.Author.Needs.{needs}
 use Rattle.relaxng.proofs.match_list.Statement.{statement}
 use Rattle.relaxng.proofs.match_list.Tie as tie
 
-instance-verdict-requires : tie.Need-instance-verdict-requires
-instance-verdict-requires c κs = search needs
+work-verdict-requires : tie.Need-work-verdict-requires
+work-verdict-requires c κs = search needs
 
 enum-told : tie.Need-enum-told
 enum-told c = search needs
@@ -26,34 +26,45 @@ place-of-requires c κs = search needs
 same-length : tie.Need-same-length
 same-length c = search needs
 
+same-length-2 : tie.Need-same-length-2
+same-length-2 c = search needs
+
 returns : tie.Need-returns
-returns c = refused-list (c .before .before .before .before .before .before .before .before .instance-verdict .ensures) _ (c .before .before .before .before .before .before .enum-told2 .given .1) (c .before .code-of .ensures) (c .place-of .ensures) refl (c .before .before .before .before .zero-u32 .ensures)
+returns c =
+    refused-list _ _ (c .before .before .before .before .before .before .before .before .before .before .work-verdict .ensures .0) (c .before .before .before .before .before .before .before .before .before .before .work-verdict .ensures .1) (c .before .before .before .before .before .before .enum-told2 .given .1) (c .before .code-of .ensures) (c .place-of .ensures) refl
+    (c .before .before .before .before .zero-u32 .ensures)
 
 match-pairs-requires : tie.Need-match-pairs-requires
-match-pairs-requires c κs = tables-pass (c .before .enum-told .given .1) (c .before .before .before .instance-verdict .ensures)
+match-pairs-requires c κs = tables-pass (c .before .enum-told .given .1) (c .before .before .before .before .before .work-verdict .ensures .0)
 
 matches-of-requires : tie.Need-matches-of-requires
 matches-of-requires c κs = search needs
 
-same-length-2 : tie.Need-same-length-2
-same-length-2 c = search needs
+same-length-3 : tie.Need-same-length-3
+same-length-3 c = search needs
+
+same-length-4 : tie.Need-same-length-4
+same-length-4 c = search needs
 
 returns-2 : tie.Need-returns-2
-returns-2 c = whole-list (c .before .before .before .before .before .before .before .instance-verdict .ensures) _ (c .before .before .before .before .before .enum-told .given .1) (c .before .before .before .match-pairs .result) (c .before .before .before .match-pairs .ensures) (c .matches-of .ensures)
+returns-2 c =
+    whole-list _ _ (c .before .before .before .before .before .before .before .before .before .work-verdict .ensures .0) (c .before .before .before .before .before .before .before .before .before .work-verdict .ensures .1) (c .before .before .before .before .before .enum-told .given .1) (c .before .before .before .match-pairs .result) (c .before .before .before .match-pairs .ensures) (c .matches-of .ensures)
 
 pub match-list-spec : {M : Type 1} → statement M
 match-list-spec =
     tie.close
     (tie.spec
-    instance-verdict-requires
+    work-verdict-requires
     enum-told
     enum-told-2
     zero-u32-requires
     code-of-requires
     place-of-requires
     same-length
+    same-length-2
     returns
     match-pairs-requires
     matches-of-requires
-    same-length-2
+    same-length-3
+    same-length-4
     returns-2)

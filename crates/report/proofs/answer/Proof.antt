@@ -3,7 +3,7 @@ use native.Mathlib.Omega.{arith}
 use Rattle.tables.specs.Refusals.{codeOf}
 use Rattle.relaxng.specs.Answers.{matchVerdict, pairCount}
 use Rattle.relaxng.specs.declared.MatchAnswer.{MatchAnswer}
-use Rattle.report.proofs.Job.{lent-list, pairs-fit, is-answered}
+use Rattle.report.proofs.Job.{lent-buffers, pairs-fit, is-answered}
 use borrow.Author.Needs.{needs}
 use Rattle.report.proofs.answer.Statement.{statement}
 use Rattle.report.proofs.answer.Tie as tie
@@ -16,6 +16,9 @@ use Rattle.job_texts.proofs.write_refusal.Reads as write-refusal-reads
 slice-aggregate-match-list : tie.Need-slice-aggregate-match-list
 slice-aggregate-match-list c = search needs
 
+slice-aggregate-match-list-2 : tie.Need-slice-aggregate-match-list-2
+slice-aggregate-match-list-2 c = search needs
+
 match-list-requires : tie.Need-match-list-requires
 match-list-requires c κs = search needs
 
@@ -26,7 +29,7 @@ slice-aggregate-write-pairs : tie.Need-slice-aggregate-write-pairs
 slice-aggregate-write-pairs c = search needs
 
 write-pairs-requires : tie.Need-write-pairs-requires
-write-pairs-requires c κs = let e = c .before .before .before .matches .given .1 in let l = c .before .before .before .before .before .list2 .given in let f = pairs-fit (lent-list (c .before .before .before .before .before .before .match-list .ensures)) (ap (λ (m : MatchAnswer). codeOf (matchVerdict m)) e) (ap pairCount e) in (omega arith, f)
+write-pairs-requires c κs = let e = c .before .before .before .matches .given .1 in let l = c .before .before .before .before .before .before .list2 .given in let f = pairs-fit (lent-buffers (c .before .before .before .before .before .before .before .match-list .ensures)) (ap (λ (m : MatchAnswer). codeOf (matchVerdict m)) e) (ap pairCount e) in (omega arith, f)
 
 enum-known-matches-2 : tie.Need-enum-known-matches-2
 enum-known-matches-2 c = search needs
@@ -35,7 +38,7 @@ slice-aggregate-write-pairs-2 : tie.Need-slice-aggregate-write-pairs-2
 slice-aggregate-write-pairs-2 c = search needs
 
 write-pairs-requires-2 : tie.Need-write-pairs-requires-2
-write-pairs-requires-2 c κs = let e = c .before .before .before .matches2 .given .1 in let l = c .before .before .before .before .before .list2 .given in let f = pairs-fit (lent-list (c .before .before .before .before .before .before .match-list .ensures)) (ap (λ (m : MatchAnswer). codeOf (matchVerdict m)) e) (ap pairCount e) in (omega arith, f)
+write-pairs-requires-2 c κs = let e = c .before .before .before .matches2 .given .1 in let l = c .before .before .before .before .before .before .list2 .given in let f = pairs-fit (lent-buffers (c .before .before .before .before .before .before .before .match-list .ensures)) (ap (λ (m : MatchAnswer). codeOf (matchVerdict m)) e) (ap pairCount e) in (omega arith, f)
 
 enum-known-matches-3 : tie.Need-enum-known-matches-3
 enum-known-matches-3 c = search needs
@@ -47,25 +50,26 @@ same-length : tie.Need-same-length
 same-length c = search needs
 
 returns : tie.Need-returns
-returns c = is-answered (lent-list (c .before .before .before .before .before .before .before .before .before .match-list .ensures)) (c .before .before .before .before .before .before .matches .given .1) (c .before .before .write-pairs .ensures)
+returns c = is-answered (lent-buffers (c .before .before .before .before .before .before .before .before .before .before .match-list .ensures)) (c .before .before .before .before .before .before .matches .given .1) (c .before .before .write-pairs .ensures)
 
 same-length-2 : tie.Need-same-length-2
 same-length-2 c = search needs
 
 returns-2 : tie.Need-returns-2
-returns-2 c = is-answered (lent-list (c .before .before .before .before .before .before .before .before .before .match-list .ensures)) (c .before .before .before .before .before .before .matches2 .given .1) (c .before .before .write-pairs2 .ensures)
+returns-2 c = is-answered (lent-buffers (c .before .before .before .before .before .before .before .before .before .before .match-list .ensures)) (c .before .before .before .before .before .before .matches2 .given .1) (c .before .before .write-pairs2 .ensures)
 
 same-length-3 : tie.Need-same-length-3
 same-length-3 c = search needs
 
 returns-3 : tie.Need-returns-3
-returns-3 c = is-answered (lent-list (c .before .before .before .before .before .before .before .before .match-list .ensures)) (c .before .before .before .before .before .matches3 .given .1) (c .before .before .write-refusal .ensures)
+returns-3 c = is-answered (lent-buffers (c .before .before .before .before .before .before .before .before .before .match-list .ensures)) (c .before .before .before .before .before .matches3 .given .1) (c .before .before .write-refusal .ensures)
 
 pub answer-spec : {M : Type 1} → statement M
 answer-spec =
     tie.close
     (tie.spec
     slice-aggregate-match-list
+    slice-aggregate-match-list-2
     match-list-requires
     enum-known-matches
     slice-aggregate-write-pairs
