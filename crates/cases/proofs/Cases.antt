@@ -18,7 +18,7 @@ use Rattle.cases.proofs.Tests.{everyBelow, someBelow}
 use Rattle.cases.proofs.StringTests.{stringsTest}
 use Rattle.cases.proofs.DescentTests.{childTest, insideTest}
 use Rattle.cases.proofs.PlaceTests.{rowsTest, noneBelow, placesTest, namesTest, pathsTest}
-use Rattle.cases.proofs.ContentTests.{typeBelow, clashTest}
+use Rattle.cases.proofs.ContentTests.{typeBelow, clashTest, inListTest, sequenceTest}
 use Rattle.cases.proofs.ClassTests.{meetTest, leastTest}
 use Rattle.cases.proofs.RestrictionTests.{sharedTest, attributesTest, interleaveTest}
 use Rattle.cases.proofs.SchemaVerdicts.{passTest, refusedTest}
@@ -31,7 +31,7 @@ use Rattle.cases.proofs.Checked.{check, checkAll, all-checked}
 
 -- every row of the table succeeds, by computation
 checked : checkAll table ≡ true
-unfolding space upto shapeOf usesBefore patternBy classBy class.holds rowsWhere fieldsRight howMany typeBy clashBy run everyBelow someBelow stringsTest childTest insideTest rowsTest noneBelow placesTest namesTest pathsTest typeBelow clashTest meetTest leastTest sharedTest attributesTest interleaveTest passTest refusedTest upTest parentTest nodesTest widthTest reachTest plusTest spanTest pairTest validTest check
+unfolding space upto shapeOf usesBefore patternBy classBy class.holds rowsWhere fieldsRight howMany typeBy clashBy run everyBelow someBelow stringsTest childTest insideTest rowsTest noneBelow placesTest namesTest pathsTest typeBelow clashTest inListTest sequenceTest meetTest leastTest sharedTest attributesTest interleaveTest passTest refusedTest upTest parentTest nodesTest widthTest reachTest plusTest spanTest pairTest validTest check
 checked = refl
 
 -- P1 to P12

@@ -4,7 +4,8 @@ use Prim.Native.Nat.{ℕ, zero, suc, _-_}
 use mathlib.Core.Bool.{Bool, true, false, not, _&&_, _||_}
 use mathlib.Core.List.{List, [], _∷_}
 use lib.Dec.{eqb, ltb}
-use Rattle.schema.specs.Views.{Pattern, empty, notAllowed, text, dataAll, dataExcept, value, attribute, ref, oneOrMore, choice, group, interleave, noPattern}
+use lib.ListN.{length, getD}
+use Rattle.schema.specs.Views.{Pattern, empty, notAllowed, text, dataAll, dataExcept, value, list, attribute, ref, oneOrMore, choice, group, interleave, noPattern}
 use Rattle.matching_rules.specs.Items.{Item, element, string, Attributes, noAttributes, only, Lookups}
 use Rattle.matching_rules.proofs.Booleans.{_∩_, _∖_}
 use Rattle.matching_rules.specs.Reach.{namesAttribute, takes}
@@ -39,12 +40,15 @@ all k = true
 abbrev pub Test : Type 0
 Test = (ℕ → Item) → Attributes → (ℕ → Bool) → ℕ → ℕ → ℕ → Bool
 
--- a row against one string, and against no item
+-- a row against one string, against no item, and against the tokens of a list
 abbrev pub stringTest : Test → Attributes → ℕ → List ℕ → Bool
 stringTest rec A q s = rec (λ k. string s) A all q 0 1
 
 abbrev pub nothingTest : Test → Attributes → ℕ → Bool
 nothingTest rec A q = rec (λ k. string []) A all q 0 0
+
+abbrev pub tokensTest : Test → ℕ → List (List ℕ) → Bool
+tokensTest rec q l = rec (λ k. string (getD l k [])) noAttributes all q 0 (length l)
 
 -- attributes are rows before N
 module _ (N : ℕ) where
@@ -89,6 +93,7 @@ module _ (L : Lookups) (N : ℕ) (equal : ℕ → List ℕ → List ℕ → Bool
   kindTest rec n it A K i j (dataAll t) = freeTest N A && oneItem (onString (λ s. true)) (run it K i (j - i))
   kindTest rec n it A K i j (dataExcept t q) = freeTest N A && oneItem (onString (λ s. not (stringTest rec noAttributes q s))) (run it K i (j - i))
   kindTest rec n it A K i j (value t k) = freeTest N A && oneItem (onString (λ s. equal t s (L .text k))) (run it K i (j - i))
+  kindTest rec n it A K i j (list q) = freeTest N A && oneItem (onString (λ s. tokensTest rec q (L .split s))) (run it K i (j - i))
   kindTest rec n it A K i j (attribute nc q) = someBelow (attributeTest L N rec A nc q) N && noItem (run it K i (j - i))
   kindTest rec n it A K i j (ref d) = freeTest N A && oneItem (onElement (λ e. pair e d)) (run it K i (j - i))
   kindTest rec n it A K i j (oneOrMore q) = repeatTest N rec it A K q i j

@@ -2,10 +2,11 @@
 use Prim.Native.Nat.{ℕ, zero, suc, _-_, _≤_, _<_}
 use mathlib.Core.Path.{_≡_, refl, sym, _∙_, subst}
 use mathlib.Core.Bool.{Bool, true, false, not, _&&_, _||_, true≢false, false≢true}
-use mathlib.Core.List.{List, [], _∷_}
+use mathlib.Core.List.{List, [], _∷_, map}
 use mathlib.Core.Logic.{_↔_, Iff·trans, Iff·symm, Iff·rfl}
 use native.Mathlib.Omega.{arith}
 use lib.Dec.{eqb, ltb}
+use lib.ListN.{length, getD}
 use borrow.Author.Tests.{eqb-true, lt-ltb, ltb-true}
 use Rattle.tables.proofs.Numbers.{not-less}
 use Rattle.schema.specs.Views.{Pattern}
@@ -21,7 +22,7 @@ use Rattle.matching_rules.proofs.Inversion.{One, AttributeMatch}
 use Rattle.matching_rules.proofs.Occurrences.{clean-part}
 use Rattle.matching_rules.proofs.OneElement.{strings-clean, weak-string}
 use Rattle.matching_rules.proofs.Positions.{among-run}
-use Rattle.matching_rules.specs.Reach.{Subpattern, operand, of-attribute, of-except, repeated, choice-first, choice-second, group-first, group-second, interleave-first, interleave-second, Reaches, namesAttribute, takes}
+use Rattle.matching_rules.specs.Reach.{Subpattern, operand, of-attribute, of-list, of-except, repeated, choice-first, choice-second, group-first, group-second, interleave-first, interleave-second, Reaches, namesAttribute, takes}
 use Rattle.matching_rules.proofs.Repeats.{distinct-part, span-oneOrMore, span-oneOrMore-attributes}
 use Rattle.matching_rules.specs.Restricted.{Restricted}
 use Rattle.matching_rules.proofs.Sequences.{hasElement, first}
@@ -30,8 +31,8 @@ use Rattle.matching_rules.proofs.Strata.{not-match}
 use Rattle.cases.proofs.Tests.{someBelow, some-below, below-some}
 use Rattle.cases.proofs.ReachTests.{test-reach, reach-test}
 use Rattle.cases.proofs.ClosureTests.{plusTest, test-plus, plus-test}
-use Rattle.cases.proofs.Model.{noItem, oneItem, onString, onElement, all, Test, stringTest, nothingTest, freeTest, eachTest, weakStringTest, attributeTest, repeatTest, names, takers, groupTest, kindTest, spanTest}
-use Rattle.cases.proofs.ModelParts.{both-decide, either-decides, not-decides, guarded-decides, no-item, is-false-iff, one-string, one-element, Bound, free-set, free-decided, each-set, only-set}
+use Rattle.cases.proofs.Model.{noItem, oneItem, onString, onElement, all, Test, stringTest, nothingTest, tokensTest, freeTest, eachTest, weakStringTest, attributeTest, repeatTest, names, takers, groupTest, kindTest, spanTest}
+use Rattle.cases.proofs.ModelParts.{both-decide, either-decides, not-decides, guarded-decides, no-item, is-false-iff, one-string, one-element, run-strings, Bound, free-set, free-decided, each-set, only-set}
 
 module _ (L : Lookups) (R : Restricted L) (N : ℕ) (equal : ℕ → List ℕ → List ℕ → Bool) (pair : ℕ → ℕ → Bool)
     (equals : (t : ℕ) (s₁ s₂ : List ℕ) → (equal t s₁ s₂ ≡ true) ↔ L .Equal t s₁ s₂) where
@@ -52,16 +53,16 @@ module _ (L : Lookups) (R : Restricted L) (N : ℕ) (equal : ℕ → List ℕ �
   abbrev pub Decided : ℕ → Test → Type 0
   Decided n rec = (it : ℕ → Item) (A : Attributes) (K : ℕ → Bool) (p i j : ℕ) → p < n → Fits it A K → (rec it A K p i j ≡ true) ↔ SpanOf it A K p i j
 
-  -- one string alone
-  pub fits-string : (s : List ℕ) (A : Attributes) → Bound N A → Distinct L A → Fits (λ k. string s) A all
-  fits-string s A b d = record {
+  -- strings alone
+  fits-strings : (s : ℕ → List ℕ) (A : Attributes) → Bound N A → Distinct L A → Fits (λ k. string (s k)) A all
+  fits-strings s A b d = record {
     bound = b;
     distinct = d;
-    clean = strings-clean L (λ k. string s) all (λ k e h x. clash x);
+    clean = strings-clean L (λ k. string (s k)) all (λ k e h x. clash x);
     known = λ k e d x. absurd (clash x);
   }
     where
-      clash : {e : ℕ} → string s ≡ element e → ⊥
+      clash : {y : List ℕ} {e : ℕ} → string y ≡ element e → ⊥
       clash x = let z : _≡_ {A = ℕ} 0 1 = cc in omega arith
 
   fits-part : {it : ℕ → Item} {A B : Attributes} {K J : ℕ → Bool} → Fits it A K → ((x : ℕ) → B x ≡ true → A x ≡ true) → ((k : ℕ) → J k ≡ true → K k ≡ true) → Fits it B J
@@ -80,10 +81,15 @@ module _ (L : Lookups) (R : Restricted L) (N : ℕ) (equal : ℕ → List ℕ �
   module _ {n : ℕ} {rec : Test} (decided : Decided n rec) where
     pub string-decided : (A : Attributes) → Bound N A → Distinct L A → (q : ℕ) (s : List ℕ) → q < n → (stringTest rec A q s ≡ true) ↔ Match L Not A (string s ∷ []) (L .pattern q)
     unfolding run
-    string-decided A b d q s l = Iff·trans (decided (λ k. string s) A all q 0 1 l (fits-string s A b d)) (span-whole L Not A (λ k. string s) all q 1 refl)
+    string-decided A b d q s l = Iff·trans (decided (λ k. string s) A all q 0 1 l (fits-strings (λ k. s) A b d)) (span-whole L Not A (λ k. string s) all q 1 refl)
 
     pub nothing-decided : (A : Attributes) → Bound N A → Distinct L A → (q : ℕ) → q < n → (nothingTest rec A q ≡ true) ↔ Match L Not A [] (L .pattern q)
-    nothing-decided A b d q l = Iff·trans (decided (λ k. string []) A all q 0 0 l (fits-string [] A b d)) (span-nowhere L Not A (λ k. string []) all q 0)
+    nothing-decided A b d q l = Iff·trans (decided (λ k. string []) A all q 0 0 l (fits-strings (λ k. []) A b d)) (span-nowhere L Not A (λ k. string []) all q 0)
+
+    tokens-decided : (q : ℕ) (l : List (List ℕ)) → q < n → (tokensTest rec q l ≡ true) ↔ Match L Not noAttributes (map string l) (L .pattern q)
+    tokens-decided q l h =
+        Iff·trans (decided (λ k. string (getD l k [])) noAttributes all q 0 (length l) h (fits-strings (λ k. getD l k []) noAttributes no-attributes no-twins))
+        (span-whole L Not noAttributes (λ k. string (getD l k [])) all q (length l) (run-strings l))
 
     weak-string-decided : (q : ℕ) (s : List ℕ) → q < n → (weakStringTest L rec q s ≡ true) ↔ WeakMatch L Not noAttributes (string s ∷ []) (L .pattern q)
     weak-string-decided q s l =
@@ -233,6 +239,13 @@ module _ (L : Lookups) (R : Restricted L) (N : ℕ) (equal : ℕ → List ℕ �
           Iff·trans
           (items-decided (oneItem (onString (λ s. equal t s (L .text k))) items) (One (λ s. L .Equal t s (L .text k))) (one-string (λ s. equal t s (L .text k)) (λ s. L .Equal t s (L .text k)) (λ s. equals t s (L .text k)) items))
           (Iff·symm (items-only L Not A it K p i j (pattern.value t k) (One (λ s. L .Equal t s (L .text k))) Iff·rfl e))
+      kind-decided l (pattern.list q) e =
+          Iff·trans
+          (items-decided (oneItem (onString (λ s. tokensTest rec q (L .split s))) items) (One Tokens) (one-string (λ s. tokensTest rec q (L .split s)) Tokens (λ s. tokens-decided q (L .split s) (part q e of-list l)) items))
+          (Iff·symm (items-only L Not A it K p i j (pattern.list q) (One Tokens) Iff·rfl e))
+        where
+          Tokens : List ℕ → Type 0
+          Tokens s = Match L Not noAttributes (map string (L .split s)) (L .pattern q)
       kind-decided l (pattern.attribute nc q) e = Iff·trans (attribute-decided nc q (part q e of-attribute l)) (Iff·symm (span-attribute L Not A it K p i j e))
       kind-decided l (pattern.ref d) e =
           Iff·trans

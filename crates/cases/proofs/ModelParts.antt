@@ -1,18 +1,20 @@
 -- What the parts of the model decide: attributes, items, and rows against one string or none.
-use Prim.Native.Nat.{ℕ, _<_}
+use Prim.Native.Nat.{ℕ, suc, _+_, _<_}
 use mathlib.Core.Path.{_≡_, refl, sym, _∙_, ap}
 use mathlib.Core.Bool.{Bool, true, false, not, _&&_, _||_, true≢false, false≢true}
-use mathlib.Core.List.{List, [], _∷_, cons≢nil}
+use mathlib.Core.List.{List, [], _∷_, cons≢nil, map}
 use mathlib.Core.Logic.{_⊎_, inl, inr, _↔_}
 use native.Mathlib.Omega.{arith}
 use lib.Dec.{eqb}
+use lib.ListN.{length, getD}
 use borrow.Author.Tests.{eqb-true, eq-eqb, not-true}
 use Rattle.matching_rules.specs.Items.{Item, element, string, Attributes, noAttributes, only}
 use Rattle.tables.proofs.Booleans.{or-either, or-left, or-right, and-left, and-right, both-and, is-false}
 use Rattle.matching_rules.proofs.Booleans.{no-member, sole-member}
 use Rattle.matching_rules.proofs.Inversion.{One}
+use Rattle.matching_rules.specs.Spans.{run}
 use Rattle.cases.proofs.Tests.{everyBelow, every-below, below-every, someBelow, some-below, below-some}
-use Rattle.cases.proofs.Model.{noItem, oneItem, onString, onElement}
+use Rattle.cases.proofs.Model.{noItem, oneItem, onString, onElement, all}
 
 -- tests joined decide what they decide, joined
 pub both-decide : (a b : Bool) {P Q : Type 0} → (a ≡ true) ↔ P → (b ≡ true) ↔ Q → ((a && b) ≡ true) ↔ (P × Q)
@@ -71,6 +73,15 @@ one-element t P (x ∷ y ∷ m) f = (λ e. absurd (false≢true e), λ x. absurd
   where
     two : {s : Item} → x ∷ y ∷ m ≡ s ∷ [] → y ∷ m ≡ []
     two h = cc
+
+-- the sequence of the strings of a list, by their positions
+strings-from : (s : ℕ → List ℕ) (i : ℕ) (l : List (List ℕ)) → ((k : ℕ) → s (i + k) ≡ getD l k []) → run (λ k. string (s k)) all i (length l) ≡ map string l
+unfolding run
+strings-from s i [] h = refl
+strings-from s i (x ∷ l) h = ap (λ (m : List Item). string (s i) ∷ m) (strings-from s (suc i) l (λ k. ap s (omega arith) ∙ h (suc k))) ∙ ap (λ (y : List ℕ). string y ∷ map string l) (ap s (omega arith) ∙ h 0)
+
+pub run-strings : (l : List (List ℕ)) → run (λ k. string (getD l k [])) all 0 (length l) ≡ map string l
+run-strings l = strings-from (λ k. getD l k []) 0 l (λ k. ap (λ (n : ℕ). getD l n []) (omega arith))
 
 -- attributes
 abbrev pub Bound : ℕ → Attributes → Type 0

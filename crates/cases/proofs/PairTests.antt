@@ -31,7 +31,7 @@ use Rattle.matching_rules.specs.Spans.{Paired, Distinct, run}
 use Rattle.matching_rules.proofs.OneElement.{no-element, stripped-clean, weak-empty, weak-string, weak-span}
 use Rattle.matching_rules.proofs.Passing.{restricted}
 use Rattle.matching_rules.proofs.Paths.{start-child}
-use Rattle.matching_rules.specs.Restricted.{Restricted}
+use Rattle.matching_rules.specs.Restricted.{Restricted, Sequential}
 use Rattle.matching_rules.proofs.Runs.{run-list}
 use Rattle.matching_rules.proofs.Sequences.{hasElement}
 use Rattle.matching_rules.proofs.Spans.{span-whole}
@@ -104,7 +104,8 @@ module _ (J : Tables) where
       decided : Decided L R (nodesOf t) equalTest pair equals (schema.rowsOf s) (matchTest pair)
       decided = span-decided L R (nodesOf t) equalTest pair equals (schema.rowsOf s)
 
-      module _ (e : ℕ) (h : e < nodesOf t) (known : (x d : ℕ) → e < x → x < nodesOf t → (pair x d ≡ true) ↔ Paired L Not x d) (p : ℕ) (l : p < schema.rowsOf s) where
+      module _ (e : ℕ) (h : e < nodesOf t) (known : (x d : ℕ) → e < x → x < nodesOf t → (pair x d ≡ true) ↔ Paired L Not x d) (p : ℕ) (l : p < schema.rowsOf s)
+          (sequential : Sequential L (L .pattern p)) where
         bound : Bound (nodesOf t) (L .attributes e)
         bound x a = attribute-later nodes e x h a .1
 
@@ -152,7 +153,7 @@ module _ (J : Tables) where
                 ] ≡ true) ↔ WeakMatch L Not (L .attributes e) (L .children e) (L .pattern p)
             go true f =
                 Iff·trans (decided (itemAt (L .children e)) (L .attributes e) (λ k. notWhitespace L (itemAt (L .children e) k)) p 0 (length (L .children e)) l fits)
-                (Iff·symm (weak-span L Not (L .attributes e) R p ok f (itemAt (L .children e)) (λ k. notWhitespace L (itemAt (L .children e) k)) (length (L .children e)) (run-list (notWhitespace L) (string []) (L .children e))))
+                (Iff·symm (weak-span L Not (L .attributes e) p sequential ok f (itemAt (L .children e)) (λ k. notWhitespace L (itemAt (L .children e) k)) (length (L .children e)) (run-list (notWhitespace L) (string []) (L .children e))))
             go false f =
                 elim (no-element ok f) [
                   | inl z ↦ subst Bare (sym z) bare-none
@@ -177,7 +178,7 @@ module _ (J : Tables) where
             → (elim b [ true ↦ weakTest L (matchTest (pairTest n)) (L .attributes e) (L .content d) (L .children e) | false ↦ false ] ≡ true) ↔ Paired L Not e d
         go true f known =
             let a = and-left (L .isDefinition d) (L .inClass (L .nameClass d) e) f in
-            let w = weak-decided (pairTest n) e h known (L .content d) (content-row d a) in (
+            let w = weak-decided (pairTest n) e h known (L .content d) (content-row d a) (R .contents d a) in (
               λ i. record { defined = a; ordered = children-ok J strings nodes e; named = and-right (L .isDefinition d) (L .inClass (L .nameClass d) e) f; content = w .0 i },
               λ q. w .1 (q .content),
             )

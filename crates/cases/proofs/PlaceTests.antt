@@ -14,7 +14,7 @@ use Rattle.schema.specs.RowRule.{maxRows, usesBefore, rowRight, SizeFault, no-r
 use Rattle.schema.proofs.RowLaws.{in-table, right-size}
 use Rattle.schema_places.specs.Places.{holdsWhole, emptyFits, PlaceFault, notAllowed-inside, empty-inside}
 use Rattle.schema_places.specs.Names.{NameFault, anyName-in-anyName, anyName-in-nsName, nsName-in-nsName}
-use Rattle.schema_places.specs.Paths.{sharingKind, notInAttribute, notInExcept, notInStart, PathFault, in-attribute, in-repeated-sharing, in-except, in-start}
+use Rattle.schema_places.specs.Paths.{sharingKind, notInAttribute, notInList, notInExcept, notInStart, PathFault, in-attribute, in-repeated-sharing, in-list, in-except, in-start}
 use Rattle.tables.proofs.Booleans.{or-left, or-right, and-left, and-right, both-and}
 use Rattle.cases.proofs.Tests.{everyBelow, every-below, no-of}
 use Rattle.cases.proofs.DescentTests.{childTest, child-test, belowTest, below-test}
@@ -48,7 +48,8 @@ abbrev pub prohibitedName : ℕ → ℕ → Bool
 prohibitedName j k = eqb j kind.anyName && eqb k kind.anyName || eqb j kind.nsName && (eqb k kind.anyName || eqb k kind.nsName)
 
 abbrev pub prohibitedPath : ℕ → ℕ → Bool
-prohibitedPath j k = eqb j kind.attribute && notInAttribute k || (eqb j kind.«data» && notInExcept k || eqb j kind.start && notInStart k)
+prohibitedPath j k =
+    eqb j kind.attribute && notInAttribute k || (eqb j kind.list && notInList k || (eqb j kind.«data» && notInExcept k || eqb j kind.start && notInStart k))
 
 -- no row has one below it that the test finds at odds with it
 unfoldable pub noneBelow : List ℕ → (ℕ → ℕ → Bool) → Bool
@@ -131,6 +132,7 @@ module _ (s : List ℕ) where
 
         go : ¬ PathFault s r
         go (in-attribute p h k b) = none p b (rw (k, h))
+        go (in-list p h k b) = none p b (rw (k, h))
         go (in-except p h k b) = none p b (rw (k, h))
         go (in-start p h k b) = none p b (rw (k, h))
         go (in-repeated-sharing p q k h b i c) =

@@ -3,7 +3,7 @@ use Prim.Native.Nat.{ℕ, zero, suc, _<_}
 use mathlib.Core.Path.{_≡_, refl, sym, _∙_, ap, subst}
 use mathlib.Core.Bool.{Bool, true, false, false≢true}
 use native.Mathlib.Omega.{arith}
-use Rattle.schema.specs.Views.{Pattern, empty, notAllowed, text, dataAll, dataExcept, value, attribute, ref, oneOrMore, choice, group, interleave, noPattern}
+use Rattle.schema.specs.Views.{Pattern, empty, notAllowed, text, dataAll, dataExcept, value, list, attribute, ref, oneOrMore, choice, group, interleave, noPattern}
 use Rattle.matching_rules.specs.Items.{Lookups}
 use Rattle.matching_rules.specs.Reach.{Operand, repeated, choice-first, choice-second, group-first, group-second, interleave-first, interleave-second, operand, Reaches, here, there}
 use Rattle.matching_rules.specs.Restricted.{Restricted}
@@ -19,6 +19,7 @@ operandTest t text = false
 operandTest t (dataAll d) = false
 operandTest t (dataExcept d p) = false
 operandTest t (value d k) = false
+operandTest t (list p) = false
 operandTest t (attribute nc p) = false
 operandTest t (ref d) = false
 operandTest t (oneOrMore p) = t p
@@ -60,6 +61,7 @@ test-operand t text h = absurd (false≢true h)
 test-operand t (dataAll d) h = absurd (false≢true h)
 test-operand t (dataExcept d p) h = absurd (false≢true h)
 test-operand t (value d k) h = absurd (false≢true h)
+test-operand t (list p) h = absurd (false≢true h)
 test-operand t (attribute nc p) h = absurd (false≢true h)
 test-operand t (ref d) h = absurd (false≢true h)
 test-operand t (oneOrMore p) h = (p, repeated, h)

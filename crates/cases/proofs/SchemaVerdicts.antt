@@ -28,15 +28,15 @@ use Rattle.tables.proofs.Booleans.{and-left, and-right}
 use Rattle.cases.proofs.Tests.{everyBelow, every-below}
 use Rattle.cases.proofs.StringTests.{stringsTest, strings-right}
 use Rattle.cases.proofs.PlaceTests.{rowsTest, rows-right, placesTest, places-right, namesTest, names-right, pathsTest, paths-right}
-use Rattle.cases.proofs.ContentTests.{clashTest, clash-test}
+use Rattle.cases.proofs.ContentTests.{sequenceTest, sequence-test}
 use Rattle.cases.proofs.RestrictionTests.{attributesTest, attributes-right, duplicateTest, attribute-fault, interleaveTest, interleave-right, interleave-fault}
 
 module _ (T : StringTable) (s : List ℕ) where
   abbrev strings : ℕ
   strings = schemaStrings T
 
-  abbrev noClash : ℕ → Bool
-  noClash r = not (clashTest s r)
+  abbrev sequenceRight : ℕ → Bool
+  sequenceRight r = not (sequenceTest s r)
 
   abbrev noSharing : ℕ → Bool
   noSharing r = not (interleaveTest strings s r)
@@ -53,7 +53,7 @@ module _ (T : StringTable) (s : List ℕ) where
 
   -- nor do the codes up to 6, to 7 and to 8, the last of them before row n
   abbrev sequenced : ℕ → Bool
-  sequenced n = placed && everyBelow noClash n
+  sequenced n = placed && everyBelow sequenceRight n
 
   abbrev attributed : ℕ → Bool
   attributed n = sequenced (rowsOf s) && everyBelow (attributesTest strings s) n
@@ -68,7 +68,7 @@ module _ (T : StringTable) (s : List ℕ) where
   unfoldable pub refusedTest : ℕ → ℕ → Bool
   refusedTest code r =
       elim (eqb code 6) [
-        | true ↦ sequenced r && clashTest s r
+        | true ↦ sequenced r && sequenceTest s r
         | false ↦ elim (eqb code 7) [
           | true ↦ attributed r && duplicateTest strings s r
           | false ↦ elim (eqb code 8) [ true ↦ interleaved r && interleaveTest strings s r | false ↦ false ]
@@ -95,8 +95,8 @@ module _ (T : StringTable) (s : List ℕ) where
       (goes-on (paths-right s right (and-right (namesTest s) (pathsTest s) paths)) rest))))
 
   -- what a test of each row before n shows of a code
-  no-clash : placed ≡ true → (n : ℕ) → everyBelow noClash n ≡ true → Clear (SequenceFault s) n
-  no-clash pass n e r h f = go (clashTest s r) (clash-test s (right-size (rows-pass pass)) r) (every-below noClash n e r h)
+  sequences-right : placed ≡ true → (n : ℕ) → everyBelow sequenceRight n ≡ true → Clear (SequenceFault s) n
+  sequences-right pass n e r h f = go (sequenceTest s r) (sequence-test s (right-size (rows-pass pass)) r) (every-below sequenceRight n e r h)
     where
       go : (b : Bool) → Decides (SequenceFault s r) b → ¬ (not b ≡ true)
       go true d i = false≢true i
@@ -104,10 +104,10 @@ module _ (T : StringTable) (s : List ℕ) where
 
   module _ (n : ℕ) (pass : sequenced n ≡ true) where
     placed-of : placed ≡ true
-    placed-of = and-left placed (everyBelow noClash n) pass
+    placed-of = and-left placed (everyBelow sequenceRight n) pass
 
     clear-6 : Clear (SequenceFault s) n
-    clear-6 = no-clash placed-of n (and-right placed (everyBelow noClash n) pass)
+    clear-6 = sequences-right placed-of n (and-right placed (everyBelow sequenceRight n) pass)
 
   module _ (n : ℕ) (pass : attributed n ≡ true) where
     sequenced-of : sequenced (rowsOf s) ≡ true
@@ -149,11 +149,11 @@ module _ (T : StringTable) (s : List ℕ) where
       goes-placed (placed-7 (rowsOf s) a) (goes-on (none-6 (rowsOf s) a) (goes-on (none-7 (rowsOf s) pass)
       (goes-on (λ r f. clear-8 (rowsOf s) pass r (interleave-row (right-size (right-8 (rowsOf s) pass)) f) f) refl)))
 
-  refused-6 : (r : ℕ) → (sequenced r && clashTest s r) ≡ true → SchemaRefusal T s Passes (Refused 6 r)
-  refused-6 r e = goes-placed (placed-of r pass) (refused r (go (clashTest s r) (clash-test s (right-size (rows-pass (placed-of r pass))) r) (and-right (sequenced r) (clashTest s r) e)) (clear-6 r pass))
+  refused-6 : (r : ℕ) → (sequenced r && sequenceTest s r) ≡ true → SchemaRefusal T s Passes (Refused 6 r)
+  refused-6 r e = goes-placed (placed-of r pass) (refused r (go (sequenceTest s r) (sequence-test s (right-size (rows-pass (placed-of r pass))) r) (and-right (sequenced r) (sequenceTest s r) e)) (clear-6 r pass))
     where
       pass : sequenced r ≡ true
-      pass = and-left (sequenced r) (clashTest s r) e
+      pass = and-left (sequenced r) (sequenceTest s r) e
 
       go : (b : Bool) → Decides (SequenceFault s r) b → b ≡ true → SequenceFault s r
       go true d i = d
@@ -179,7 +179,7 @@ module _ (T : StringTable) (s : List ℕ) where
 
       go : (a : Bool) → eqb code 6 ≡ a → (b : Bool) → eqb code 7 ≡ b → (c : Bool) → eqb code 8 ≡ c
           → elim a [
-            | true ↦ sequenced r && clashTest s r
+            | true ↦ sequenced r && sequenceTest s r
             | false ↦ elim b [
               | true ↦ attributed r && duplicateTest strings s r
               | false ↦ elim c [ true ↦ interleaved r && interleaveTest strings s r | false ↦ false ]
