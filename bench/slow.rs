@@ -3,6 +3,7 @@
 
 use super::maker::{expand, over, read};
 use super::reference::job::Job;
+use std::collections::BTreeSet;
 
 const NONE: u32 = u32::MAX;
 const NODES: usize = 1024;
@@ -78,6 +79,16 @@ fn job(strings: u16, schema: &str, right: bool, instance: Vec<u32>) -> Job {
     let ends = [&[0], &input.ends[..]].concat();
     let text = |k: usize| input.bytes[ends[k] as usize..ends[k + 1] as usize].to_vec();
     Job { strings: (0..strings as usize).map(text).collect(), schema: input.schema, instance }
+}
+
+/// A job over an empty string and these.
+fn job_over(strings: Vec<Vec<u8>>, schema: &str, right: bool, instance: Vec<u32>) -> Job {
+    Job { strings: [vec![vec![]], strings].concat(), ..job(2, schema, right, instance) }
+}
+
+/// A root 0:1 with one text.
+fn one_text(string: u32) -> Vec<u32> {
+    vec![1, NONE, 0, 1, 0, 3, 0, string, 0, 0]
 }
 
 // One wide element.
@@ -221,10 +232,7 @@ fn wide() -> Slow {
 
 fn texts() -> Vec<Slow> {
     let pair = |k: u16| [b'a' + (k / 26) as u8, b'a' + (k % 26) as u8].to_vec();
-    let with = |strings: Vec<Vec<u8>>, schema: &str, instance: Vec<u32>| {
-        Job { strings: [vec![vec![]], strings].concat(), ..job(2, schema, true, instance) }
-    };
-    let one_text = vec![1, NONE, 0, 1, 0, 3, 0, 1, 0, 0];
+    let with = |strings: Vec<Vec<u8>>, schema: &str, instance: Vec<u32>| job_over(strings, schema, true, instance);
     let spaces = [vec![[vec![b' '; 15_300], vec![b'x']].concat()], (0..508).map(pair).collect()].concat();
     let long = |word: &str, end: &str| (word.repeat(2_700) + end).into_bytes();
     let words = [vec![long("a ", "x"), long("a  ", "y")], (0..62).map(pair).collect()].concat();
@@ -233,12 +241,89 @@ fn texts() -> Vec<Slow> {
     let values = "element * + @ * (| 1 250 value) start $0";
     let values = with(words, values, (0..16).flat_map(element).collect());
     let alike = (1..512u16).map(|k| [vec![b'a'; 30], k.to_be_bytes().to_vec()].concat()).collect();
-    let spaces = with(spaces, "element * (| 1 252 value) start $0", one_text.clone());
-    let alike = with(alike, "element * text start $0", one_text);
+    let spaces = with(spaces, "element * (| 1 252 value) start $0", one_text(1));
+    let alike = with(alike, "element * text start $0", one_text(1));
     vec![
         slow("token_spaces", spaces, true, 1, "252 token values of 15,300 spaces and a letter, 508 other strings"),
         slow("token_words", values, false, 0, "1,008 attributes of 8,101 bytes, 250 values unlike in the last byte"),
         slow("strings_alike", alike, true, 1, "511 strings that share 30 of 32 bytes"),
+    ]
+}
+
+/// Lists: the only value is `a`, which is string 1, and the text is string 2.
+fn lists() -> Vec<Slow> {
+    let of = |content: &str, right: bool, text: String| {
+        job_over(vec![b"a".to_vec(), text.into_bytes()], &format!("element * {content} start $0"), right, one_text(2))
+    };
+    let (full, last) = (|| "a ".repeat(8_000), || "a ".repeat(7_999) + "b");
+    let repeats = format!("list {}value", "+ ".repeat(250));
+    let choices = "list + | (| 1 160 data- token) value";
+    let optional = "list (, 1 100 | empty + value)";
+    let groups = format!("list {}value", "+ , | empty value ".repeat(100));
+    let starts = format!("list {}value", "+ , value | empty ".repeat(100));
+    let runs = "list + (, 1 250 value)";
+    let excepts = format!("list + {}value", "data- ".repeat(500));
+    let many = "(| 1 125 list + value)";
+    vec![
+        slow("list_repeats", of(&repeats, true, full()), true, 1, "a list of oneOrMore 250 deep, 8,000 tokens"),
+        slow("list_repeats_last", of(&repeats, true, last()), false, 0, "the same, another last token"),
+        slow("list_choice_left", of(choices, false, full()), true, 1, "a list of 160 choices nested left, 8,000 tokens"),
+        slow("list_choice_right", of(choices, true, full()), true, 1, "the same nested right"),
+        slow("list_optional_left", of(optional, false, full()), true, 1, "100 optional repeats grouped left, as many"),
+        slow("list_optional_right", of(optional, true, last()), false, 0, "the same grouped right, another last token"),
+        slow("list_groups", of(&groups, true, full()), true, 1, "oneOrMore around 100 nested groups, 8,000 tokens"),
+        slow("list_groups_last", of(&groups, true, last()), false, 0, "the same, another last token"),
+        slow("list_starts", of(&starts, true, full()), true, 1, "the same, the rest of each group may be absent"),
+        slow("list_runs", of(runs, true, full()), true, 1, "a list of runs of 250, 8,000 tokens"),
+        slow("list_runs_left", of(runs, false, full() + "a"), false, 0, "the same grouped left, one token too many"),
+        slow("list_excepts", of(&excepts, true, full()), true, 1, "a list of data with excepts 500 deep, 8,000 tokens"),
+        slow("list_many", of(many, true, last()), false, 0, "125 lists, 8,000 tokens, the last is no value"),
+    ]
+}
+
+/// A tree of so many elements named 0:1, each leaf with the text that its number gives.
+fn leaf_texts(elements: usize, string: impl Fn(u32) -> u32) -> Vec<u32> {
+    let tree = tree(63, elements);
+    let inner: BTreeSet<u32> = tree.chunks(5).map(|node| node[1]).collect();
+    let (mut rows, mut words): (Vec<u32>, Vec<u32>) = (vec![], vec![]);
+    for (node, k) in tree.chunks(5).zip(0..) {
+        let row = words.len() as u32 / 5;
+        let parent = if node[1] == NONE { NONE } else { rows[node[1] as usize] };
+        rows.push(row);
+        words.extend([1, parent, 0, 1, 0]);
+        if !inner.contains(&k) {
+            words.extend([3, row, string(k), 0, 0]);
+        }
+    }
+    words
+}
+
+/// Lists in many elements and attributes, and values that are long but for their tokens.
+fn list_texts() -> Vec<Slow> {
+    let deep = "+ ".repeat(240);
+    let text = || vec![b"a".to_vec(), "a ".repeat(8_000).into_bytes()];
+    let elements = format!("element * | + $0 list {deep}value start $0");
+    let elements = job_over(text(), &elements, true, leaf_texts(500, |_| 2));
+    let pair = |k: u16| [b'a' + (k / 26) as u8, b'a' + (k % 26) as u8].to_vec();
+    let apart = (0..508).map(|k| [b"a ".repeat(14), pair(k)].concat());
+    let apart = [b"a".to_vec()].into_iter().chain(apart).collect();
+    let lists = "element * | + $0 (| 1 124 list + value) start $0";
+    let apart = job_over(apart, lists, true, leaf_texts(511, |k| 2 + k % 508));
+    let locals: Vec<u32> = (3..66).collect();
+    let element = |k: u32| [vec![1, if k == 0 { NONE } else { 0 }, 0, 1, 0], attributes_of(64 * k, &locals, 2)].concat();
+    let attributes = format!("element * , + @ * list {deep}value | empty + $0 start $0");
+    let names = (0..63).map(pair);
+    let strings = text().into_iter().chain(names).collect();
+    let attributes = job_over(strings, &attributes, true, (0..16).flat_map(element).collect());
+    let blanks = |token: &str| vec![(" ".repeat(8_000) + "a").into_bytes(), token.repeat(4_000).into_bytes()];
+    let equal = job_over(blanks("a "), "element * list + (| 1 250 value) start $0", true, one_text(2));
+    let unequal = job_over(blanks("b "), "element * list + | (| 1 249 value) token start $0", false, one_text(2));
+    vec![
+        slow("list_elements", elements, true, 500, "492 elements with one text of 8,000 tokens, oneOrMore 240 deep"),
+        slow("list_attributes", attributes, true, 16, "1,008 attributes with one value of 8,000 tokens, the same"),
+        slow("list_strings", apart, false, 0, "502 elements, each with a text of its own, 124 lists"),
+        slow("list_blanks", equal, true, 1, "250 values of 8,000 blanks and a letter, 4,000 tokens"),
+        slow("list_blanks_other", unequal, true, 1, "the same, each token is another"),
     ]
 }
 
@@ -265,6 +350,7 @@ fn schemas() -> Vec<Slow> {
 }
 
 pub fn slow_jobs() -> Vec<Slow> {
-    let parts = [nested(), interleaved(), attributes(), all_definitions(), one_definition(), names(), texts(), schemas()];
-    parts.into_iter().flatten().chain([wide()]).collect()
+    let elements = [nested(), interleaved(), attributes(), all_definitions(), one_definition(), names()];
+    let strings = [texts(), lists(), list_texts(), schemas()];
+    elements.into_iter().chain(strings).flatten().chain([wide()]).collect()
 }

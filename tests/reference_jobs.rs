@@ -19,7 +19,7 @@ use job_files::job_files;
 use job_maker::{large_job, small_job};
 use maker::Rng;
 use reference::brute::by_search;
-use reference::job;
+use reference::job::{self, Job};
 use reference::matching::{by_derivatives, Whitespace};
 use reference::{answer, check};
 use std::cell::Cell;
@@ -31,9 +31,13 @@ fn named_jobs(y: &mut Tally) {
     }
 }
 
+fn has_list(job: &Job) -> bool {
+    job.schema.chunks(3).any(|row| row[0] == 6)
+}
+
 /// Derivatives, with whitespace by the rules and left out, against the search.
 fn small_jobs(y: &mut Tally, r: &Rng, number: usize) {
-    let (mut valid, mut pairs, mut rows, mut done) = (0, 0, 0, 0);
+    let (mut valid, mut pairs, mut rows, mut lists, mut done) = (0, 0, 0, 0, 0);
     while done < number {
         let Some(job) = small_job(r, done % 4) else { continue };
         done += 1;
@@ -41,25 +45,29 @@ fn small_jobs(y: &mut Tally, r: &Rng, number: usize) {
         valid += usize::from(expected.valid);
         pairs += expected.pairs.len();
         rows += job.instance.len() / 5;
+        lists += usize::from(has_list(&job));
         let text = job::write(&job);
         y.same(&text, &by_derivatives(&job, Whitespace::ByRule), &expected);
         y.same(&text, &by_derivatives(&job, Whitespace::LeftOut), &expected);
         y.same(&text, check(text.as_bytes()), answer(&expected));
     }
-    println!("small jobs: {number}, valid {valid}, rows {rows}, pairs {pairs}");
+    println!("small jobs: {number}, valid {valid}, with lists {lists}, rows {rows}, pairs {pairs}");
     y.same("a third or more are valid, a third or more not", (number / 3..=2 * number / 3).contains(&valid), true);
+    y.same("a third or more have a list", lists >= number / 3, true);
 }
 
 /// A document made along a definition matches it, also a wide one.
 fn large_jobs(y: &mut Tally, r: &Rng, number: usize) {
-    let mut rows = 0;
+    let (mut rows, mut lists) = (0, 0);
     for _ in 0..number {
         let (job, definition) = large_job(r);
         rows += job.instance.len() / 5;
+        lists += usize::from(has_list(&job));
         let matches = by_derivatives(&job, Whitespace::LeftOut);
         y.same(&job::write(&job), matches.pairs.contains(&(0, definition)), true);
     }
-    println!("large jobs: {number}, rows {rows}");
+    println!("large jobs: {number}, with lists {lists}, rows {rows}");
+    y.same("a third or more have a list", lists >= number / 3, true);
 }
 
 fn main() {

@@ -117,24 +117,24 @@ fn named_rows(y: &mut Tally) {
     const H: u32 = 77_777;
     let no_pattern = &[0, 2, 4, 5, 6, 7, 8, 9, 10, 11, 12, 13, 100, 256, 512, 65_536, NONE - 1];
     let no_class = &[1, 2, 4, 5, 6, 7, 8, 9, 10, 11, 12, 13, 100, 257, 512, 65_537, NONE - 1];
-    let (t, c) = ([3, 0, 0], [18, 0, 2]);
+    let (t, c, d) = ([3, 0, 0], [18, 0, 2], [4, 0, NONE]);
     let holes: [(&[u32], &[&[Row]]); 10] = [
-        (no_pattern, &[&[[4, 0, H]], &[[9, H, 0]], &[[10, H, H]], &[[11, H, H]], &[[12, H, H]],
+        (no_pattern, &[&[[4, 0, H]], &[[6, H, 0]], &[[9, H, 0]], &[[10, H, H]], &[[11, H, H]], &[[12, H, H]],
             &[[21, H, 0]], &[c, [7, 3, H]], &[c, [20, 3, H]], &[t, [10, 3, H]], &[t, [11, 3, H]],
             &[t, [12, 3, H]], &[t, [10, H, 3]], &[t, [11, H, 3]], &[t, [12, H, 3]]]),
         (no_class, &[&[[16, H, 0]], &[[17, 1, H]], &[[19, H, H]], &[t, [7, H, 3]], &[t, [20, H, 3]],
             &[c, [19, 3, H]], &[c, [19, H, 3]]]),
-        (&[3], &[&[[4, 0, H]], &[[9, H, 0]], &[[10, H, H]], &[[16, H, 0]], &[[17, 1, H]], &[[19, H, H]]]),
-        (&[NONE], &[&[[9, H, 0]], &[c, [7, 3, H]], &[t, [7, H, 3]], &[t, [10, 3, H]], &[t, [11, H, 3]],
+        (&[3], &[&[[4, 0, H]], &[[6, H, 0]], &[[9, H, 0]], &[[10, H, H]], &[[16, H, 0]], &[[17, 1, H]], &[[19, H, H]]]),
+        (&[NONE], &[&[[6, H, 0]], &[[9, H, 0]], &[c, [7, 3, H]], &[t, [7, H, 3]], &[t, [10, 3, H]], &[t, [11, H, 3]],
             &[t, [12, 3, H]], &[c, [19, 3, H]], &[c, [19, H, 3]], &[c, [20, 3, H]], &[t, [20, H, 3]]]),
         (&[0, 1, 3, 4, 9, 10, 11, 258, 65_538, NONE], &[&[[8, H, 0]]]),
         (&[1, 2, 256, 65_536, NONE], &[&[[1, H, 0]], &[[1, 0, H]], &[[2, H, 0]], &[[2, 0, H]], &[[3, H, 0]],
-            &[[3, 0, H]], &[[8, 2, H]], &[t, [9, 3, H]], &[[16, NONE, H]], &[c, [16, 3, H]]]),
+            &[[3, 0, H]], &[d, [6, 3, H]], &[[8, 2, H]], &[t, [9, 3, H]], &[[16, NONE, H]], &[c, [16, 3, H]]]),
         (&[2, 3, 256, 65_536, NONE], &[&[[4, H, NONE]], &[[4, 0, NONE], [4, H, 3]], &[[5, H, 1]]]),
         (&[4, 256, 65_537, NONE],
             &[&[[5, 0, H]], &[[17, H, NONE]], &[c, [17, H, 3]], &[[18, H, 1]], &[[18, 1, H]]]),
         (&[0], &[&[[18, 0, H]], &[[18, 3, H]]]),
-        (&[0, 6, 13, 14, 15, 22, 23, 259, 65_539, NONE],
+        (&[0, 13, 14, 15, 22, 23, 259, 262, 65_539, NONE],
             &[&[[H, 0, 0]], &[[H, 1, 0]], &[[H, 0, 1]], &[[H, 1, 1]]]),
     ];
     for (values, list) in holes {
@@ -147,24 +147,26 @@ fn named_rows(y: &mut Tally) {
     let cases: [(&str, u64, &[&[Row]]); 9] = [
         ("good rows", 0, &[&[[1, 0, 0]], &[[2, 0, 0]], &[t], &[[4, 0, NONE]], &[[4, 1, NONE]], &[[5, 0, 0]],
             &[[5, 1, 3]], &[[16, NONE, 0]], &[[17, 0, NONE]], &[[17, 3, NONE]], &[c], &[[18, 3, 3]],
-            &[[8, 2, 0]], &[[8, 5, 0]], &[[8, 8, 0]], &[[4, 0, NONE], [4, 0, 3]], &[t, [9, 3, 0]],
+            &[[8, 2, 0]], &[[8, 5, 0]], &[[8, 8, 0]], &[d, [4, 0, 3]], &[d, [6, 3, 0]], &[t, [9, 3, 0]],
             &[c, [16, 3, 0]], &[c, [17, 3, 3]], &[c, c, [19, 3, 4]], &[c, c, [19, 4, 3]],
             &[t, t, [11, 3, 4]], &[t, t, [10, 4, 3]], &[t, c, [7, 4, 3]], &[c, t, [20, 3, 4], t]]),
         ("no parent", at(2, 3), &[&[t, t], &[c, t], &[[1, 0, 0], c], &[[16, NONE, 0], t], &[[8, 2, 0], t],
-            &[[5, 0, 1], t, [9, 4, 0]], &[c, c, [16, 4, 0]], &[[4, 0, NONE], [4, 0, NONE]]]),
-        ("no parent after a bad field", at(2, 3), &[&[t, [9, 0, 0]], &[t, [4, 0, 0]], &[c, [16, 1, 0]],
-            &[c, [17, 0, 1]], &[t, t, [10, 5, 4]], &[t, t, [10, 4, 4]], &[c, c, [19, 1, 4]]]),
+            &[[5, 0, 1], t, [9, 4, 0]], &[c, c, [16, 4, 0]], &[d, d], &[d, d, [6, 4, 0]]]),
+        ("no parent after a bad field", at(2, 3), &[&[t, [9, 0, 0]], &[t, [6, 0, 0]], &[c, [6, 3, 0]], &[t, [4, 0, 0]],
+            &[c, [16, 1, 0]], &[c, [17, 0, 1]], &[t, t, [10, 5, 4]], &[t, t, [10, 4, 4]], &[c, c, [19, 1, 4]]]),
         ("no parent by a bad kind", at(2, 3),
-            &[&[t, [6, 3, 0]], &[t, [13, 3, 3]], &[c, [15, 3, 3]], &[t, [0, 3, 3]]]),
-        ("two parents", at(2, 3), &[&[t, [9, 3, 0], [10, 3, 4]], &[t, [4, 0, 3], [4, 0, 3], [11, 4, 5]],
+            &[&[t, [13, 3, 0]], &[t, [14, 3, 3]], &[c, [15, 3, 3]], &[t, [0, 3, 3]]]),
+        ("two parents", at(2, 3), &[&[t, [9, 3, 0], [10, 3, 4]], &[d, [6, 3, 0], [10, 3, 4]],
+            &[d, [6, 3, 0], [6, 3, 0], [10, 4, 5]], &[t, [4, 0, 3], [4, 0, 3], [11, 4, 5]],
             &[c, [16, 3, 0], [17, 1, 3], [19, 4, 5]], &[c, t, [7, 3, 4], [20, 3, 5], t]]),
         ("one child twice", at(2, 3),
             &[&[t, [10, 3, 3]], &[t, [11, 3, 3]], &[t, [12, 3, 3]], &[c, [19, 3, 3]]]),
         ("pattern used again", at(2, 1),
-            &[&[[9, 1, 0]], &[[10, 1, 1]], &[[4, 0, 1]], &[c, [7, 3, 1]], &[[21, 1, 0]]]),
+            &[&[[6, 1, 0]], &[[9, 1, 0]], &[[10, 1, 1]], &[[4, 0, 1]], &[c, [7, 3, 1]], &[[21, 1, 0]]]),
         ("class used again", at(2, 0),
             &[&[[16, 0, 0]], &[[17, 1, 0]], &[[19, 0, 0]], &[t, [7, 0, 3]], &[[7, 0, 1]]]),
-        ("two faults", at(2, 4), &[&[t, [9, 3, 1], [6, 0, 0], t], &[t, [9, 3, 0], [3, 0, 1]]]),
+        ("two faults", at(2, 4), &[&[t, [9, 3, 1], [13, 0, 0], t], &[t, [9, 3, 0], [3, 0, 1]],
+            &[d, [6, 3, 1], [6, 4, 0]]]),
     ];
     for (name, expected, list) in cases {
         list.iter().for_each(|rows| y.verdict(name, &around(rows), expected));
@@ -222,6 +224,13 @@ const BODIES: &[(&str, u64, &str, &str)] = &[
        "| !none text; | text !none; , !none text; , text !none; & !none text; & text !none; + !none;
         @ 0:1 !none; data- !none; | text !empty; | empty !empty; , !empty text; , text !empty;
         & !empty text; & text !empty; + !empty; data- | value !empty"),
+    ("in place in a list", 0, "_; | text _; @ 0:1 _; , @ 0:1 text _; + @ * _",
+       "list empty; list | empty data; list + | empty value; list , data | empty data; list | empty | empty token"),
+    ("out of place in a list", 3, "list _; list , data _; list + _; list | empty _; list data- _; @ 0:1 list _",
+       "| !none data; | data !none; , !none data; , data !none; + !none; data- !none; | data !empty;
+        | empty !empty; , !empty data; , data !empty; + !empty; list !none; @ 0:1 !none; & !empty data;
+        data- | value !empty"),
+    ("notAllowed as a list", 3, "_; | text _; @ 0:1 _", "list !none"),
     // Classes of attributes, and of elements that nothing refers to.
     ("class in place", 0, "+ @ _ text; & text + | $1 @ _ data; text element _ text; none element _ $0",
        "*; 0:*; 0:1; *- 0:1; *- 0:*; *- / 0:1 1:*; *- 0:*- 0:1; 0:*- 0:1; / * *; 0:*- / 1:1 / 0:2 0:1;
@@ -252,6 +261,17 @@ const BODIES: &[(&str, u64, &str, &str)] = &[
        "data- !empty; data- | !empty value; data- data- !empty"),
     ("below except of data, pass", 0, "data- _; data- | value _; data- data- _; @ 0:1 data- _",
        "data; token; value; | data value; data- token; | | value data data- value"),
+    ("below a list", 5, "list _; list | data _; list | _ data; list + _; list , data _; list , _ value;
+        list | empty + , _ data; | text list _; @ 0:1 list _; + @ 0:1 list + _; , text list | data _; + list _",
+       "!text; !$1; !@ 0:3 data; !& data value; & + data !list data; !list data; !list empty; !list + data"),
+    ("below a list, the smaller row", 5, "list _; list + _; @ 0:1 list | data _; data- list _",
+       "@ 0:3 !text; @ 0:3 & !text data; list !text; list list !text; & !$1 data; data- !text; data- !$1; data- !empty;
+        data- !, data data; data- !+ value; , !text text; data- @ 0:3 !text; data- !@ 0:3 data; data- !list data;
+        data- list !empty; list data- !text; data- data- !list value; data- | value !list value"),
+    ("list below except of data", 5, "data- _; data- | value _; data- | value | _ data; data- data- _;
+        | text data- | value data- _; @ 0:1 data- _; list data- _; list + , data data- _",
+       "!list data; !list value; !list token; !list data- value; !list | data value; list !+ data;
+        list !, data value; list !empty; list | !empty data; list | data !+ value; list data- !text"),
     // Content types in pairs.
     ("empty and all", 0, ", _ @ 0:3 data; & @ 0:3 data _; , | empty @ 0:3 text _;
         | text & _ | empty @ 0:3 text",
@@ -278,6 +298,20 @@ const BODIES: &[(&str, u64, &str, &str)] = &[
         , text !, data data; | value !& text data"),
     ("content of an attribute, pass", 0, "@ 0:1 _; + @ 0:1 | empty _",
        ", text text; | data text; , text , text text; + + text; | , text text data"),
+    ("a list is simple", 6, "!, _ token; !, text _; !, $1 _; !, _ $2; !& _ text; !& $1 _; !& value _; !, _ list data;
+        !& list empty _; | text !, _ | $2 value",
+       "list empty; list data; list value; list + data; list , data value; list | empty data; | empty list data;
+        | list data text; | list empty list data; , @ 0:3 text list data; & list empty @ 0:3 list data"),
+    ("a list repeated or in an attribute", 6, "!+ _; !+ | text _; @ 0:1 !, text _; @ 0:1 !+ _; , @ 0:2 list + data !+ _",
+       "list empty; list data; list value; list + data; list , data value; | empty list data; | list data text"),
+    ("a list as content", 0, "_; , @ 0:1 text _; & _ @ 0:1 data; , | empty @ 0:1 text _; | text _; | _ $1; | data _;
+        | _ + text; , @ 0:1 list + data _; | , @ 0:1 list data _ & text $1; | _ , text text",
+       "list empty; list data; list value; list + data; | empty list data; | list data text; | list data list empty;
+        , @ 0:3 text list data; & list empty @ 0:3 list data; @ 0:3 list data"),
+    ("no type inside a list", 0, "list _; | text list _; @ 0:1 list _; + @ * list _; list , data _; list + _;
+        list | empty + _",
+       "+ data; + + value; , data value; , data , data data; + , data | empty value; , + data + + data; | , data data + data;
+         + | empty data; + data- value; , data- | value data data"),
     ("P12 and content, which row", 6, "_", "!, data $1; !, $1 data; , @ 0:2 text !, data text;
         !, , data @ 0:2 text value; , !, data text , data text; , !+ data data; & text , $1 !+ value"),
     ("content through a ref", 0, "_", ", $3 $3; + $3; , text $3"),
@@ -304,6 +338,10 @@ const BODIES: &[(&str, u64, &str, &str)] = &[
         !, , @ 0:2 text @ 0:3 text @ 0:2 text; , @ 0:2 text !@ * text;
         , !, @ 0:2 text @ 0:2 text | text @ * text; , + @ 0:2 text & text !, @ 0:3 text @ 0:3 text;
         , !@ * text @ 0:2 text; & !@ * text @ 0:1 text; $1 element 3:3 !, @ 0:2 text @ 0:2 text"),
+    ("attributes with lists", 7, "_; | text _", "!, @ 0:2 list data @ 0:2 list empty; !& @ 0:2 list + data + @ * text;
+        !@ * list + data; , @ 0:1 list data !@ 0:* list , data data; | list data !@ 0:* list data"),
+    ("attributes with lists, pass", 0, "_; | list + data _", ", @ 0:2 list data @ 0:3 list data; + @ 0:* list + data;
+        & @ 0:2 list empty + @ 1:* list data; | @ 0:2 list data @ 0:2 list empty"),
     ("attributes in a choice", 0, "_", "| @ 0:2 text @ 0:2 text; + | @ * text @ * text;
         | , text @ 0:2 text @ 0:2 text; + | @ 0:1 text + @ 0:* text"),
     ("attribute in an attribute", 5, "_", ", @ 0:2 text @ 0:3 !@ 0:2 text; & @ 0:3 !@ 0:2 text @ 0:2 text"),
@@ -343,9 +381,11 @@ fn named_rules(y: &mut Tally) {
     let definitions = "element 0:1 @ 0:1 text element 0:2 $0";
     for outer in ["_", "| $0 _", "| _ $0", "| $0 | $0 _", "| | _ $0 $0"] {
         for (code, list) in [(0, "$0; $1; | $0 $1"),
-            (3, "| !none $0; | $0 !none; | $0 !empty; + !none; , !empty $0"),
+            (3, "| !none $0; | $0 !none; | $0 !empty; + !none; , !empty $0; list !none; list | data !empty"),
             (5, "!text; !data; !token; !value; !, $0 $1; !& $0 $1; !+ $0; @ 0:1 !text; @ 0:1 !value;
-            @ 0:1 !$0; data- !value; + , $1 !text; | $1 !data; | !empty $0")] {
+            @ 0:1 !$0; data- !value; + , $1 !text; | $1 !data; | !empty $0; list !data; list !value;
+            list !empty; list !text; list !$0; list + !data; list , !data data; list | !empty data;
+            list list !data; list @ 0:1 !value; list data- !value; + list !data")] {
             for inner in list.split(';') {
                 y.notation("start", 4, code, &format!("{definitions} start {}", outer.replace('_', inner)));
             }
@@ -355,8 +395,9 @@ fn named_rules(y: &mut Tally) {
     y.notation("start", 4, 5, &format!("{definitions} start !empty"));
 
     // The least code is given, whatever the places are.
-    let faults = [(3, "+ !none"), (4, "text element *- !* text"), (5, "@ 0:1 !$1"), (6, "!+ data"),
-        (7, "!@ * text"), (7, "!, @ 0:1 text @ 0:1 text"), (8, "!& text text"), (8, "!& $0 $0")];
+    let faults = [(3, "+ !none"), (3, "list !none"), (4, "text element *- !* text"), (5, "@ 0:1 !$1"),
+        (5, "list !text"), (6, "!+ data"), (6, "!+ list data"), (7, "!@ * text"),
+        (7, "!, @ 0:1 text @ 0:1 text"), (8, "!& text text"), (8, "!& $0 $0")];
     for ((k, a), (j, b)) in faults.iter().flat_map(|a| faults.iter().map(move |b| (a, b))) {
         let plain = [a, b].map(|text| text.replace('!', ""));
         let (a, b) = if k <= j { (*a, &plain[1][..]) } else { (&plain[0][..], *b) };
@@ -498,6 +539,9 @@ fn large_schemas(y: &mut Tally) {
         (0, "(. 1 507 +) text"), (0, "(. 1 507 +) $0"), (3, "(. 1 507 +) !none"),
         (6, "(. 1 506 +) !+ data"), (0, "(. 1 505 +) @ * data"), (5, "(. 1 503 +) , text !@ * data"),
         (0, "@ 0:1 (. 1 505 +) text"), (7, "!@ * (. 1 505 +) text"),
+        (0, "list (. 1 506 +) data"), (5, "list (. 1 506 +) !text"), (3, "list (. 1 506 +) !empty"),
+        (6, "(. 1 505 +) !+ list data"), (0, "list (, 1 253 data)"), (5, "list (. 1 252 , data) !$0"),
+        (0, "list (. 1 253 | empty) data"), (5, "data- (. 1 251 | value) !list data"), (0, "list (. 1 506 data-) value"),
         (0, "(. 1 507 data-) value"), (5, "(. 1 507 data-) !text"),
         (0, "(. 1 253 | empty) data"), (3, "(. 1 253 | text) !empty"), (0, "(, 1 254 text)"),
         (6, "(. 1 252 , text) !, text data"), (8, "(. 1 252 & $0) !& $0 $0"), (0, "(| 1 254 $0)"),

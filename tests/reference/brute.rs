@@ -5,12 +5,17 @@ use super::job::Job;
 use super::matching::{Matches, Member, Tables, NONE};
 use std::collections::{BTreeSet, HashMap};
 
-/// The widest element that is searched: children, attributes.
+/// The widest element that is searched, by its children and attributes, and the longest list.
 pub const WIDEST: (usize, usize) = (5, 3);
+const TOKENS: usize = 10;
 
 pub fn is_small(job: &Job) -> bool {
     let tables = Tables::of(job);
-    tables.members.iter().all(|m| m.len() <= WIDEST.0) && tables.attributes.iter().all(|a| a.len() <= WIDEST.1)
+    let few = |parts: &[usize], most: usize| parts.iter().all(|&n| n <= most);
+    let members: Vec<usize> = tables.members.iter().map(Vec::len).collect();
+    let attributes: Vec<usize> = tables.attributes.iter().map(Vec::len).collect();
+    let tokens: Vec<usize> = tables.tokens.iter().map(Vec::len).collect();
+    few(&members, WIDEST.0) && few(&attributes, WIDEST.1) && few(&tokens, TOKENS)
 }
 
 pub fn by_search(job: &Job) -> Matches {
@@ -126,7 +131,13 @@ impl<'a> Goal<'a> {
         let value = self.tables.nodes[node as usize][4];
         self.tables.named(node, class) && weakly(self.tables, self.proved, &[], vec![Member::Text(value)], p)
     }
-    /// The rules of empty, text, data, value and ref, for an empty set of attributes.
+    /// Rule (list): the tokens as a sequence of strings, with no attributes.
+    fn list(&self, string: u32, pattern: u32) -> bool {
+        let tokens: Vec<Member> = self.tables.tokens[string as usize].iter().map(|&token| Member::Text(token)).collect();
+        let m = all(tokens.len());
+        Goal::new(self.tables, self.proved, &[], tokens).holds(pattern, 0, m)
+    }
+    /// The rules of empty, text, data, value, list and ref, for an empty set of attributes.
     fn without_attributes(&mut self, pattern: u32, row: [u32; 3], m: u32) -> bool {
         let (tables, proved) = (self.tables, self.proved);
         let ws = |string: u32| tables.is_white(string);
@@ -139,6 +150,7 @@ impl<'a> Goal<'a> {
             }
             ([4, _, except], [Member::Text(_)]) => except == NONE || !self.holds(except, 0, m),
             ([5, datatype, value], [Member::Text(string)]) => tables.equal(datatype, *string, value),
+            ([6, p, _], [Member::Text(string)]) => self.list(*string, p),
             ([8, definition, _], sequence) => {
                 let element = match *sequence {
                     [Member::Element(e)] => e,

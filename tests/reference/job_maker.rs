@@ -4,12 +4,17 @@ use super::maker::{grow, read, rows_of, Rng, Row};
 use super::reference::brute::is_small;
 use super::reference::instance::{self, Node};
 use super::reference::job::Job;
-use super::reference::matching::Tables;
+use super::reference::matching::{is_white, Tables};
 use super::reference::{fault, NONE};
-use std::cell::Cell;
+use std::cell::{Cell, RefCell};
 
 /// What strings are made from: whitespace and words that only `token` finds equal.
-const TEXTS: [&str; 12] = [" ", "a", " a", "a b", "  a \t b ", "\t\n", "no", " no ", "x", "\r", "a\rb", "\n"];
+const TEXTS: [&str; 15] = [
+    " ", "a", " a", "a b", "  a \t b ", "\t\n", "no", " no ", "x", "\r", "a\rb", "\n", "b", "a a\n", "x\tno x",
+];
+/// What stands between two tokens, and what may stand around them.
+const BETWEEN: [&str; 6] = [" ", " ", "\n", "\t", "  ", " \n\t "];
+const AROUND: [&str; 6] = ["", "", "", " ", "\n", "\t  "];
 
 /// A part of an element's content, in document order.
 #[derive(Clone, Copy)]
@@ -32,39 +37,78 @@ struct Along<'a> {
     r: &'a Rng,
     limits: &'a Limits,
     tables: Tables,
+    /// The strings of the job, and those that are made for its lists.
+    strings: RefCell<Vec<Vec<u8>>>,
     nodes: Vec<Node>,
     /// Patterns taken so far; nested oneOrMore would take too many.
     taken: Cell<usize>,
 }
 
 impl Along<'_> {
+    /// The number of strings of the job.
+    fn given(&self) -> u32 {
+        self.tables.tokens.len() as u32
+    }
     fn string(&self) -> u32 {
-        1 + self.r.below(self.tables.strings.len() - 1) as u32
+        1 + self.r.below(self.given() as usize - 1) as u32
+    }
+    fn is_white(&self, string: u32) -> bool {
+        self.strings.borrow()[string as usize].iter().all(is_white)
     }
     fn white(&self) -> Option<u32> {
-        let strings = 1..self.tables.strings.len() as u32;
-        let white: Vec<u32> = strings.filter(|&s| self.tables.is_white(s)).collect();
+        let white: Vec<u32> = (1..self.given()).filter(|&s| self.is_white(s)).collect();
         (!white.is_empty()).then(|| self.r.pick(&white))
     }
     /// A name of the class.
     fn name(&self, class: u32) -> Option<(u32, u32)> {
-        let n = self.tables.strings.len() as u32;
+        let n = self.given();
         let names: Vec<(u32, u32)> = (0..n).flat_map(|ns| (1..n).map(move |local| (ns, local))).collect();
         let names: Vec<_> = names.into_iter().filter(|&name| self.tables.holds(class, name)).collect();
         (!names.is_empty()).then(|| self.r.pick(&names))
     }
+    /// Counts a pattern; nothing where there were too many.
+    fn take(&self) -> Option<()> {
+        self.taken.set(self.taken.get() + 1);
+        (self.taken.get() <= 10 * self.limits.rows).then_some(())
+    }
+    /// Tokens that match a pattern, but for those of a data with an except.
+    fn tokens(&self, pattern: u32) -> Option<Vec<u32>> {
+        let (r, tables) = (self.r, &self.tables);
+        self.take()?;
+        Some(match tables.row(pattern) {
+            [1, ..] => vec![],
+            [4, ..] => {
+                let known: Vec<u32> = tables.tokens.concat();
+                vec![r.pick(known.get(..).filter(|known| !known.is_empty())?)]
+            }
+            [5, datatype, string] => match tables.tokens[string as usize][..] {
+                [token] if datatype == 1 || token == string => vec![token],
+                _ => return None,
+            },
+            [9, a, _] => {
+                let times = 1 + r.below(self.limits.repeats);
+                (0..times).map(|_| self.tokens(a)).collect::<Option<Vec<_>>>()?.concat()
+            }
+            [10, a, b] => self.tokens(r.pick(&[a, b]))?,
+            [11, a, b] => [self.tokens(a)?, self.tokens(b)?].concat(),
+            _ => return None,
+        })
+    }
+    /// A string of these tokens, if there is room for it.
+    fn joined(&self, tokens: &[u32]) -> Option<u32> {
+        let tokens: Vec<&[u8]> = tokens.iter().map(|&token| &self.tables.strings[token as usize][..]).collect();
+        numbered(&mut self.strings.borrow_mut(), spaced(self.r, &tokens))
+    }
     /// What matches a pattern, but for the strings of a data with an except.
     fn items(&self, pattern: u32) -> Option<Vec<Item>> {
         let r = self.r;
-        self.taken.set(self.taken.get() + 1);
-        if self.taken.get() > 10 * self.limits.rows {
-            return None;
-        }
+        self.take()?;
         Some(match self.tables.row(pattern) {
             [1, ..] => vec![],
             [3, ..] => [Item::Text(self.string())][..r.below(2)].to_vec(),
             [4, ..] => vec![Item::Text(self.string())],
             [5, _, string] => vec![Item::Text(string)],
+            [6, tokens, _] => vec![Item::Text(self.joined(&self.tokens(tokens)?)?)],
             [7, class, content] => {
                 let (namespace, local) = self.name(class)?;
                 let value = match self.items(content)?.first() {
@@ -112,7 +156,7 @@ impl Along<'_> {
             }
         }
         // Of adjacent texts one that is not whitespace stays: only text takes it.
-        let white = |item: &Item| matches!(item, Item::Text(string) if self.tables.is_white(*string));
+        let white = |item: &Item| matches!(item, Item::Text(string) if self.is_white(*string));
         let mut apart: Vec<Item> = vec![];
         for item in children {
             match (apart.last(), item) {
@@ -152,6 +196,30 @@ impl Along<'_> {
         }
         Some(())
     }
+}
+
+/// Tokens with whitespace between them and some around them.
+fn spaced(r: &Rng, tokens: &[&[u8]]) -> Vec<u8> {
+    let mut text = r.pick(&AROUND).as_bytes().to_vec();
+    for (k, token) in tokens.iter().enumerate() {
+        text.extend(if k > 0 { r.pick(&BETWEEN) } else { "" }.bytes());
+        text.extend(*token);
+    }
+    text.extend(r.pick(&AROUND).bytes());
+    text
+}
+
+/// The number of a string, which is added where it is new; nothing where the strings are full.
+fn numbered(strings: &mut Vec<Vec<u8>>, text: Vec<u8>) -> Option<u32> {
+    if let Some(known) = strings.iter().position(|string| *string == text) {
+        return Some(known as u32);
+    }
+    let bytes: usize = strings.iter().map(Vec::len).sum();
+    if strings.len() == 512 || bytes + text.len() > 16_384 {
+        return None;
+    }
+    strings.push(text);
+    Some(strings.len() as u32 - 1)
 }
 
 /// A schema that passes, with strings of its own.
@@ -222,8 +290,78 @@ fn one_element(r: &Rng) -> Vec<u32> {
     words
 }
 
-/// A document along a definition that start names, or along any if it names none; and that definition.
-fn along(r: &Rng, job: &Job, limits: &Limits) -> Option<(Vec<u32>, u32)> {
+/// A pattern of tokens, in the notation of schemas.
+fn tokens(r: &Rng, depth: usize) -> String {
+    let part = || tokens(r, depth - 1);
+    match r.below(if depth == 0 { 5 } else { 14 }) {
+        0..=2 => "value".to_string(),
+        3 => "token".to_string(),
+        4 => r.pick(&["data- value", "data- | value value", "data- data- value"]).to_string(),
+        5..=7 => format!(", {} {}", part(), part()),
+        8..=10 => format!("+ {}", part()),
+        11 => format!("| empty {}", part()),
+        _ => format!("| {} {}", part(), part()),
+    }
+}
+
+/// Strings for lists: three names, values of one token and others.
+const VALUES: [&str; 8] = ["a", "b", "c", " a ", "b\t", "a b", " ", "a\rb"];
+
+/// A schema of lists: three definitions, of one name but for some, and a root that holds any of them.
+fn lists(r: &Rng) -> Job {
+    let list = || match r.below(12) {
+        0 => "list empty".to_string(),
+        _ => format!("list {}", tokens(r, 1 + r.below(3))),
+    };
+    let content = || match r.below(10) {
+        0..=2 => list(),
+        3 => format!("| $1 {}", list()),
+        4 => format!(", @ 0:3 {} {}", list(), list()),
+        5 => format!("& {} | empty @ 0:3 {}", list(), list()),
+        6 => format!("| {} | {} value", list(), list()),
+        7 => format!("| data- value {}", list()),
+        8 => format!("+ | @ 0:3 {} @ 0:* text", list()),
+        _ => format!("| empty {}", list()),
+    };
+    loop {
+        let definitions = format!("element 0:2 {} element 0:2 {} element / 0:2 0:3 {}", content(), content(), content());
+        let (schema, _) = read(&format!("element 0:1 | empty + | $1 | $2 $3 {definitions} start $0"));
+        let mut rows = rows_of(&schema);
+        for row in rows.iter_mut().filter(|row| row[0] == 5) {
+            *row = [5, r.below(2) as u32, r.pick(&[1, 1, 2, 2, 3, 4, 5, 6, 7, 8, 0])];
+        }
+        let strings = [""].iter().chain(&VALUES).map(|text| text.as_bytes().to_vec()).collect();
+        let job = Job { strings, schema: rows.concat(), instance: vec![1, NONE, 0, 1, 0] };
+        if fault(&job).is_none() {
+            return job;
+        }
+    }
+}
+
+/// A root with children whose texts and attributes hold some tokens.
+fn token_texts(r: &Rng, strings: &mut Vec<Vec<u8>>) -> Vec<u32> {
+    let mut string = || {
+        let tokens: Vec<&[u8]> = (0..r.below(6)).map(|_| r.pick(&["a", "b", "c", "d", "a\rb"]).as_bytes()).collect();
+        numbered(strings, spaced(r, &tokens)).unwrap_or(0)
+    };
+    let mut words = vec![1, NONE, 0, 1, 0];
+    for _ in 0..1 + r.below(5) {
+        let row = words.len() as u32 / 5;
+        words.extend([1, 0, 0, r.pick(&[2, 2, 3]), 0]);
+        if r.below(3) == 0 {
+            words.extend([2, row, 0, 3, string()]);
+        }
+        match string() {
+            0 => {}
+            text => words.extend([3, row, text, 0, 0]),
+        }
+    }
+    words
+}
+
+/// A document along a definition that start names, or along any if it names none; and that definition. What strings the
+/// document needs are added to those of the job.
+fn along(r: &Rng, job: &mut Job, limits: &Limits) -> Option<u32> {
     let tables = Tables::of(job);
     let mut refs = vec![];
     let mut open = vec![tables.schema.len() as u32 - 1];
@@ -236,10 +374,13 @@ fn along(r: &Rng, job: &Job, limits: &Limits) -> Option<(Vec<u32>, u32)> {
         }
     }
     let refs = if refs.is_empty() { tables.definitions() } else { refs };
-    let mut along = Along { r, limits, tables, nodes: vec![], taken: Cell::new(0) };
+    let strings = RefCell::new(job.strings.clone());
+    let mut along = Along { r, limits, tables, strings, nodes: vec![], taken: Cell::new(0) };
     let root = r.pick(&refs);
     along.element(root, NONE, 0)?;
-    Some((along.nodes.concat(), root))
+    job.instance = along.nodes.concat();
+    job.strings = along.strings.into_inner();
+    Some(root)
 }
 
 /// A document that has nothing of the schema but its strings.
@@ -275,16 +416,23 @@ fn has_except(job: &Job) -> bool {
     rows_of(&job.schema).iter().any(|row: &Row| row[0] == 4 && row[2] != NONE)
 }
 
+/// Three sorts of schemas, each with documents that have no more of it than names and strings.
+type Maker = (fn(&Rng) -> Job, fn(&Rng, &mut Job) -> Vec<u32>);
+const MAKERS: [Maker; 3] = [
+    (one_content, |r, _| one_element(r)),
+    (schema, |r, job| unlike(r, job.strings.len(), 12)),
+    (lists, |r, job| token_texts(r, &mut job.strings)),
+];
+
 /// A schema with a small document: along it, along it and damaged, or unlike it.
 pub fn small_job(r: &Rng, sort: usize) -> Option<Job> {
-    let one = r.below(2) == 0;
-    let mut job = if one { one_content(r) } else { schema(r) };
+    let (make, unlike_it) = r.pick(&MAKERS);
+    let mut job = make(r);
+    match sort {
+        0 => job.instance = unlike_it(r, &mut job),
+        _ => drop(along(r, &mut job, &SMALL)?),
+    }
     let strings = job.strings.len();
-    job.instance = match sort {
-        0 if one => one_element(r),
-        0 => unlike(r, strings, 12),
-        _ => along(r, &job, &SMALL)?.0,
-    };
     for _ in 0..[0, 0, 1, 2][sort] {
         damage(r, strings, &mut job.instance);
     }
@@ -295,11 +443,10 @@ pub fn small_job(r: &Rng, sort: usize) -> Option<Job> {
 /// A schema with a document along one of its definitions, which is given too, of 16 rows or more.
 pub fn large_job(r: &Rng) -> (Job, u32) {
     loop {
-        let mut job = schema(r);
-        let Some((instance, definition)) = along(r, &job, &LARGE) else { continue };
-        let wrong = instance::fault(job.strings.len(), &instance).is_some();
-        if !has_except(&job) && !wrong && instance.len() >= 5 * 16 {
-            job.instance = instance;
+        let mut job = r.pick(&[schema, schema, lists])(r);
+        let Some(definition) = along(r, &mut job, &LARGE) else { continue };
+        let wrong = instance::fault(job.strings.len(), &job.instance).is_some();
+        if !has_except(&job) && !wrong && job.instance.len() >= 5 * 16 {
             return (job, definition);
         }
     }

@@ -9,16 +9,19 @@ pub const NONE: u32 = u32::MAX;
 
 // Tables, names and strings.
 
-/// A child of an element: the number of a string, or the row of an element.
+/// A child of an element or a token of a string: the number of a string, or the row of an element.
 #[derive(Clone, Copy, Debug, PartialEq, Eq, Hash)]
 pub enum Member {
     Text(u32),
     Element(u32),
 }
 
-/// The rows of a job, with the attributes and children of each element.
+/// The rows of a job, with the tokens of each string and the attributes and children of each element.
 pub struct Tables {
+    /// The strings of the job, and then the tokens that are none of them.
     pub strings: Vec<Vec<u8>>,
+    /// For each string of the job its tokens, by their numbers among the strings above.
+    pub tokens: Vec<Vec<u32>>,
     pub schema: Vec<[u32; 3]>,
     pub nodes: Vec<Node>,
     pub attributes: Vec<Vec<u32>>,
@@ -37,7 +40,8 @@ impl Tables {
                 _ => members[parent as usize].push(Member::Text(string)),
             }
         }
-        Tables { strings: job.strings.clone(), schema, nodes, attributes, members }
+        let (strings, tokens) = with_tokens(&job.strings);
+        Tables { strings, tokens, schema, nodes, attributes, members }
     }
 
     pub fn row(&self, row: u32) -> [u32; 3] {
@@ -65,17 +69,34 @@ impl Tables {
     pub fn is_white(&self, string: u32) -> bool {
         self.strings[string as usize].iter().all(is_white)
     }
-    /// Equality as `string` for 0, as `token` for 1. No two strings of a table have the same bytes.
+    /// Equality as `string` for 0, as `token` for 1. No two of the strings have the same bytes.
     pub fn equal(&self, datatype: u32, one: u32, other: u32) -> bool {
-        let words = |string: u32| -> Vec<&[u8]> {
-            self.strings[string as usize].split(is_white).filter(|word| !word.is_empty()).collect()
-        };
-        one == other || datatype == 1 && words(one) == words(other)
+        let tokens = |string: u32| split(&self.strings[string as usize]);
+        one == other || datatype == 1 && tokens(one) == tokens(other)
     }
 }
 
-fn is_white(byte: &u8) -> bool {
+pub fn is_white(byte: &u8) -> bool {
     matches!(byte, b' ' | b'\t' | b'\n')
+}
+
+/// The tokens of a text, which whitespace separates.
+fn split(text: &[u8]) -> Vec<&[u8]> {
+    text.split(is_white).filter(|token| !token.is_empty()).collect()
+}
+
+/// The strings with the tokens that are none of them after them, and the tokens of each string by number.
+fn with_tokens(strings: &[Vec<u8>]) -> (Vec<Vec<u8>>, Vec<Vec<u32>>) {
+    let mut all = strings.to_vec();
+    let mut numbers: HashMap<Vec<u8>, u32> = all.iter().cloned().zip(0..).collect();
+    let mut number = |token: &[u8]| {
+        let new = all.len() as u32;
+        let number = *numbers.entry(token.to_vec()).or_insert(new);
+        all.extend((number == new).then(|| token.to_vec()));
+        number
+    };
+    let tokens = strings.iter().map(|string| split(string).into_iter().map(&mut number).collect()).collect();
+    (all, tokens)
 }
 
 /// The pairs of element row and definition row in order, and whether the document is valid.
@@ -87,7 +108,7 @@ pub struct Matches {
 
 /// What becomes of strings of whitespace among elements: each is taken as `ws1` or `ws2` of rule (element), or all
 /// are left out beforehand. The second is right because each stands beside an element, whose ref can take it, and
-/// because data and value share no content with elements; it keeps the number of patterns small.
+/// because data, value and list share no content with elements; it keeps the number of patterns small.
 #[derive(Clone, Copy, PartialEq, Eq)]
 pub enum Whitespace {
     ByRule,
@@ -129,7 +150,7 @@ enum Pattern {
     NotAllowed,
     Empty,
     Text,
-    /// A data, value or attribute row.
+    /// A data, value, list or attribute row.
     Row(u32),
     /// A ref to a definition, and whether `ws1` is taken.
     Ref(u32, bool),
@@ -325,6 +346,13 @@ impl Derivatives<'_> {
                 !self.nullable[left]
             }
             [5, datatype, value] => self.tables.equal(datatype, string, value),
+            [6, tokens, _] => {
+                let p = self.build(tokens);
+                let tables = self.tables;
+                let each = tables.tokens[string as usize].iter();
+                let left = each.fold(p, |p, &token| self.after(p, Step::Member(Member::Text(token))));
+                self.nullable[left]
+            }
             _ => false,
         }
     }

@@ -10,8 +10,8 @@ pub const NONE: u32 = 4_294_967_295;
 macro_rules! kinds {
     ($($kind:ident $number:literal),*) => { $(const $kind: u32 = $number;)* };
 }
-kinds! { EMPTY 1, NOT_ALLOWED 2, TEXT 3, DATA 4, VALUE 5, ATTRIBUTE 7, REF 8, ONE_OR_MORE 9, CHOICE 10 }
-kinds! { GROUP 11, INTERLEAVE 12, ANY_NAME 16, NS_NAME 17, NAME 18, CLASS_CHOICE 19, ELEMENT 20, START 21 }
+kinds! { EMPTY 1, NOT_ALLOWED 2, TEXT 3, DATA 4, VALUE 5, LIST 6, ATTRIBUTE 7, REF 8, ONE_OR_MORE 9 }
+kinds! { CHOICE 10, GROUP 11, INTERLEAVE 12, ANY_NAME 16, NS_NAME 17, NAME 18, CLASS_CHOICE 19, ELEMENT 20, START 21 }
 
 /// A table of strings, and the words of a schema.
 #[derive(Clone)]
@@ -125,7 +125,7 @@ fn fields(kind: u32) -> Option<[Field; 2]> {
         VALUE => [Datatype, Number],
         ATTRIBUTE => [Class, Pattern],
         REF => [Element, Zero],
-        ONE_OR_MORE => [Pattern, Zero],
+        LIST | ONE_OR_MORE => [Pattern, Zero],
         CHOICE | GROUP | INTERLEAVE => [Pattern, Pattern],
         ANY_NAME => [ClassOrNone, Zero],
         NS_NAME => [Number, ClassOrNone],
@@ -230,7 +230,7 @@ impl Schema {
     fn out_of_place(&self, row: usize) -> bool {
         match (self.kind(row), self.above[row].first()) {
             (NOT_ALLOWED, parent) => !matches!(parent, Some((ELEMENT | START, _))),
-            (EMPTY, Some((ELEMENT | START | ATTRIBUTE | DATA, _) | (CHOICE, 0))) => false,
+            (EMPTY, Some((ELEMENT | START | ATTRIBUTE | DATA | LIST, _) | (CHOICE, 0))) => false,
             (kind, _) => kind == EMPTY,
         }
     }
@@ -249,13 +249,14 @@ impl Schema {
         let kinds: Vec<u32> = path.iter().map(|(kind, _)| *kind).collect();
         let joins = |k: usize| kinds[k] == GROUP || kinds[k] == INTERLEAVE;
         let repeated = |k: usize| joins(k) && kinds[k + 1..].contains(&ONE_OR_MORE);
-        let never: [(bool, &[u32]); 4] = [
+        let never: [(bool, &[u32]); 5] = [
             (kinds.contains(&ATTRIBUTE), &[REF, ATTRIBUTE]),
             ((0..kinds.len()).any(repeated), &[ATTRIBUTE]),
+            (kinds.contains(&LIST), &[LIST, REF, ATTRIBUTE, TEXT, INTERLEAVE]),
             (path.contains(&(DATA, 1)),
-                &[ATTRIBUTE, REF, TEXT, GROUP, INTERLEAVE, ONE_OR_MORE, EMPTY]),
+                &[ATTRIBUTE, REF, TEXT, LIST, GROUP, INTERLEAVE, ONE_OR_MORE, EMPTY]),
             (kinds.contains(&START),
-                &[ATTRIBUTE, DATA, VALUE, TEXT, GROUP, INTERLEAVE, ONE_OR_MORE, EMPTY]),
+                &[ATTRIBUTE, DATA, VALUE, TEXT, LIST, GROUP, INTERLEAVE, ONE_OR_MORE, EMPTY]),
         ];
         never.iter().any(|(below, kinds)| *below && kinds.contains(&kind))
     }
@@ -276,14 +277,16 @@ impl Schema {
     fn content(&self, row: u32) -> u32 {
         let own = |row| match self.kind(row) {
             TEXT | REF => 1,
-            DATA | VALUE => 2,
+            DATA | VALUE | LIST => 2,
             _ => 0,
         };
         self.reached(row).into_iter().map(own).max().unwrap()
     }
+    /// Within a list no pattern needs a content type.
     fn not_groupable(&self, row: usize) -> bool {
         let [kind, a, b] = self.rows[row];
         let (one, other) = match kind {
+            _ if self.above[row].contains(&(LIST, 0)) => return false,
             GROUP | INTERLEAVE => (self.content(a), self.content(b)),
             ONE_OR_MORE => (self.content(a), self.content(a)),
             _ => return false,

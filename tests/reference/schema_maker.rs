@@ -20,11 +20,11 @@ pub fn over(n: u16, schema: Vec<u32>) -> Input {
 /// In place of a child.
 const C: u32 = 88_888;
 #[rustfmt::skip]
-const WORDS: [(&str, Row); 17] = [
+const WORDS: [(&str, Row); 18] = [
     ("empty", [1, 0, 0]), ("none", [2, 0, 0]), ("text", [3, 0, 0]), ("data", [4, 0, NONE]),
-    ("token", [4, 1, NONE]), ("data-", [4, 0, C]), ("value", [5, 1, 1]), ("@", [7, C, C]), ("+", [9, C, 0]),
-    ("|", [10, C, C]), (",", [11, C, C]), ("&", [12, C, C]), ("*", [16, NONE, 0]), ("*-", [16, C, 0]),
-    ("/", [19, C, C]), ("element", [20, C, C]), ("start", [21, C, 0]),
+    ("token", [4, 1, NONE]), ("data-", [4, 0, C]), ("value", [5, 1, 1]), ("list", [6, C, 0]), ("@", [7, C, C]),
+    ("+", [9, C, 0]), ("|", [10, C, C]), (",", [11, C, C]), ("&", [12, C, C]), ("*", [16, NONE, 0]),
+    ("*-", [16, C, 0]), ("/", [19, C, C]), ("element", [20, C, C]), ("start", [21, C, 0]),
 ];
 
 struct Reader<'a>(std::str::SplitWhitespace<'a>, Vec<Row>, Vec<u32>);
@@ -100,6 +100,9 @@ impl Rng {
     }
 }
 
+/// All that may stand in a pattern, by letters.
+const ALL: &str = "t$dvl@n";
+
 /// Grows schemas in the notation. Of 1,000 choices some ignore the rules.
 struct Grow<'a> {
     r: &'a Rng,
@@ -127,10 +130,29 @@ impl Grow<'_> {
             _ => format!("{n}:{l}"),
         }
     }
-    /// A pattern. What may stand in it: t text, $ refs, d data, v values, @ attributes, n groups,
+    /// A pattern of tokens, for the inside of a list.
+    fn tokens(&self, size: usize) -> String {
+        let (r, half) = (self.r, size / 2);
+        if self.slip(2) {
+            return match r.below(4) {
+                which @ 0..=1 => ["none", "empty"][which].to_string(),
+                _ => self.pattern(ALL, size.min(5)),
+            };
+        }
+        match r.below(if size > 2 { 12 } else { 4 }) {
+            0 | 1 => "value".to_string(),
+            2 => r.pick(&["data", "token"]).to_string(),
+            3 => format!("data- {}", self.pattern("dv", half)),
+            4..=6 => format!(", {} {}", self.tokens(half), self.tokens(half)),
+            7 | 8 => format!("+ {}", self.tokens(size - 1)),
+            9 => format!("| empty {}", self.tokens(half)),
+            _ => format!("| {} {}", self.tokens(half), self.tokens(half)),
+        }
+    }
+    /// A pattern. What may stand in it: t text, $ refs, d data, v values, l lists, @ attributes, n groups,
     /// interleaves and oneOrMore; r is for below oneOrMore.
     fn pattern(&self, may: &str, size: usize) -> String {
-        let (r, half, all) = (self.r, size / 2, "t$dv@n");
+        let (r, half, all) = (self.r, size / 2, ALL);
         if self.slip(1) {
             return match r.below(3) {
                 0 => self.pattern(all, size),
@@ -145,18 +167,20 @@ impl Grow<'_> {
             let some = has('t') || has('$') || has('@') && !has('r');
             kinds = if has('n') && some { joins } else { "|" }.chars().collect();
         }
-        let simple = if self.slip(4) { "" } else { "dv" };
+        let simple = if self.slip(4) { "" } else { "dvl" };
         match *kinds.get(r.below(kinds.len())).unwrap_or(&'t') {
             '$' => format!("${}", r.below(self.definitions)),
             'd' if self.slip(4) => format!("data- {}", self.pattern(all, 4)),
             'd' if r.below(3) == 0 => format!("data- {}", self.pattern("dv", half)),
             'd' => "data".to_string(),
             'v' => "value".to_string(),
+            'l' if r.below(8) == 0 => "list empty".to_string(),
+            'l' => format!("list {}", self.tokens(half.max(1 + r.below(8)))),
             '@' => {
                 let wild = if r.below(3) == 0 { 2 } else { 0 };
                 let plus = if wild > 0 && !has('r') { "+" } else { "" };
-                let mixed = if self.slip(4) { "tdvn" } else { "tn" };
-                let content = self.pattern(r.pick(&[mixed, "dv"]), half.max(r.below(4)));
+                let mixed = if self.slip(4) { "tdvln" } else { "tn" };
+                let content = self.pattern(r.pick(&[mixed, "dv", "dvl"]), half.max(r.below(4)));
                 let content = if r.below(6) == 0 { "empty" } else { &content };
                 format!("{plus} @ {} {content}", self.class(wild, 4))
             }
@@ -184,7 +208,7 @@ pub fn rows_of(words: &[u32]) -> Vec<Row> {
 /// Changes all fields that name a row.
 fn renumber(rows: &mut [Row], new: impl Fn(u32) -> u32) {
     for [kind, a, b] in rows {
-        if matches!(kind, 7..=12 | 16 | 19..=21) && *a != NONE {
+        if matches!(kind, 6..=12 | 16 | 19..=21) && *a != NONE {
             *a = new(*a);
         }
         if matches!(kind, 4 | 7 | 10..=12 | 17 | 19 | 20) && *b != NONE {
@@ -210,7 +234,7 @@ pub fn grow(r: &Rng) -> Input {
     let mut text = String::new();
     for _ in 0..definitions {
         let class = g.class(r.pick(&[0, 0, 1, 2]), 3);
-        let content = g.pattern(r.pick(&["t$@n", "t$@n", "dv@n"]), 1 + r.below(36 / definitions));
+        let content = g.pattern(r.pick(&["t$@n", "t$@n", "dv@n", "dvl@n", "l@n"]), 1 + r.below(36 / definitions));
         let content = r.pick(&["none", "empty", &content, &content, &content, &content]);
         text += &format!("element {class} {content} ");
     }
@@ -262,6 +286,7 @@ pub fn damage(r: &Rng, rows: &mut Vec<Row>) {
                 r.pick(&[[16, NONE, 0], [17, 0, NONE], [18, 0, 1], [18, 1, 1]])
             }
             [8, ..] if rows[row as usize][0] == 20 => [8, row, 0],
+            [6 | 9, a, _] => r.pick(&[[6, a, 0], [9, a, 0]]),
             [10..=12, a, b] => r.pick(&[[10, a, b], [11, b, a], [12, a, b]]),
             _ => old,
         },
