@@ -2,11 +2,12 @@
 -- and below start stand choice, ref and notAllowed alone (10.2.6).
 use mathlib.Core.Path.{_≡_, refl, sym, subst}
 use mathlib.Core.Logic.{_≢_}
-use mathlib.Core.Bool.{Bool, true, false, true≢false}
+use mathlib.Core.Bool.{true, false, true≢false}
 use mathlib.Core.List.{List}
 use Prim.Native.Nat.{ℕ, zero, suc, _-_, _<_}
 use native.Mathlib.Omega.{arith}
 use Rattle.tables.specs.Tables.{Tables}
+use Rattle.tables.proofs.Booleans.{is-false}
 use Rattle.schema.specs.Kinds as kind
 use Rattle.schema.specs.Rows.{rowsOf, kindOf, aOf, shapeOf, sortOf, isPattern}
 use Rattle.schema.specs.RowRule.{no-row}
@@ -106,11 +107,7 @@ module _ {strings : ℕ} {s : List ℕ} (pass : SchemaPasses strings s) where
   start-child = start-pattern .0
 
   in-start-right : (r : ℕ) → Below s r (rowsOf s - 1) → notInStart (kindOf s r) ≡ false
-  in-start-right r b = go (notInStart (kindOf s r)) refl
-    where
-      go : (x : Bool) → notInStart (kindOf s r) ≡ x → x ≡ false
-      go true f = absurd (pass .paths r (in-start (rowsOf s - 1) f start-kind b))
-      go false f = refl
+  in-start-right r b = is-false (notInStart (kindOf s r)) (λ f. pass .paths r (in-start (rowsOf s - 1) f start-kind b))
 
 module _ {strings : ℕ} (J : Tables) (pass : SchemaPasses strings (J .schema)) where
   pub excepts-plain : (p d q : ℕ) → patternOf (J .schema) p ≡ dataExcept d q → Plain (lookups J) (patternOf (J .schema) q)

@@ -117,8 +117,8 @@ fn put(marks: &mut [u8], p: u32, done: bool)
     tables::put_u8(marks, p as usize, 0);
 }
 
-// Whether one of two ways is open: the first where it is free, or the other.
-fn goes(first: bool, free: bool, other: bool) -> bool
+// Whether a way in is open: the first where it is free, or the other.
+fn both_or(first: bool, free: bool, other: bool) -> bool
     ensures { λ r. ⌜ r ≡ (first && free || other) ⌝ }
 {
     if first {
@@ -157,7 +157,7 @@ fn leaf(
 
 // The two parts of a row: the second is entered where onward says so. The row is completed where the second part is,
 // and where the first is and may be the last.
-fn two(
+fn two_parts(
     bytes: &[u8],
     ends: &[u32],
     schema: &[u32],
@@ -190,7 +190,7 @@ fn two(
         token,
         marks,
     );
-    let done = goes(first, last, then);
+    let done = both_or(first, last, then);
     put(marks, p, done);
     done
 }
@@ -217,9 +217,9 @@ fn group(
     let a = schema::field_a(schema, p);
     let free = is_marked(nothing, a);
     let before = is_marked(marks, a);
-    let onward = goes(enter, free, before);
+    let onward = both_or(enter, free, before);
     let last = is_marked(nothing, schema::field_b(schema, p));
-    two(
+    two_parts(
         bytes,
         ends,
         schema,
@@ -254,7 +254,7 @@ fn one_or_more(
 {
     let a = schema::field_a(schema, p);
     let again = is_marked(marks, a);
-    let inner = goes(enter, true, again);
+    let inner = both_or(enter, true, again);
     let done = step(bytes, ends, schema, places, nothing, a, inner, token, marks);
     put(marks, p, done);
     done
@@ -293,7 +293,7 @@ fn step(
             token,
             marks,
         ),
-        schema::CHOICE => two(
+        schema::CHOICE => two_parts(
             bytes,
             ends,
             schema,

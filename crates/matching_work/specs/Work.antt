@@ -33,3 +33,7 @@ longest J = longestBefore J (nodesOf (J .instance))
 -- the schema has a kind 6 row, and the room is fewer bytes than three times that length plus three
 abbrev pub WorkTooShort : Tables → ℕ → Type 0
 WorkTooShort J room = HasList (J .schema) × (room < 3 * longest J + 3)
+
+-- code 12 for a work buffer of so many bytes: too short, at place 0
+abbrev pub WorkFault : (J : Tables) (room place : ℕ) → Type 0
+WorkFault J room place = (place ≡ 0) × WorkTooShort J room

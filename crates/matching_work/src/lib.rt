@@ -1,16 +1,17 @@
 // The room of the lent work buffer: whether it is too short for the longest string that a list can meet.
+use tables::Checked;
 ghost use mathlib.Core.Path.{_≡_};
 ghost use mathlib.Core.List.{List};
 ghost use Prim.Native.Nat.{ℕ, _≤_, max};
 ghost use lib.ListN.{length};
-ghost use Rattle.tables.specs.Answers.{Decides};
+ghost use Rattle.tables.specs.Answers.{Decides, Finds};
 ghost use Rattle.tables.specs.Tables.{stringTable, tablesOf};
 ghost use Rattle.strings.specs.Strings.{textOf};
 ghost use Rattle.schema.specs.Rows.{rowsOf};
 ghost use Rattle.schema.specs.RowRule.{maxRows};
 ghost use Rattle.instance.specs.Nodes.{nodesOf};
 ghost use Rattle.instance.specs.NodeRule.{maxNodes};
-ghost use Rattle.matching_work.specs.Work.{HasList, valueLength, longest, WorkTooShort};
+ghost use Rattle.matching_work.specs.Work.{HasList, valueLength, longest, WorkTooShort, WorkFault};
 
 // Whether a row is a list. A last row that lacks fields has a kind too.
 fn has_list(schema: &[u32]) -> bool
@@ -68,7 +69,7 @@ fn longest(bytes: &[u8], ends: &[u32], instance: &[u32]) -> usize
 
 // Whether so many bytes of work buffer are too few. They are asked for only where the schema has a list.
 // Fewer than three times m plus three are those of which a third is at most m.
-pub fn is_short(bytes: &[u8], ends: &[u32], schema: &[u32], instance: &[u32], lent: usize) -> bool
+fn is_short(bytes: &[u8], ends: &[u32], schema: &[u32], instance: &[u32], lent: usize) -> bool
     requires { ⌜ (rowsOf (now schema) ≤ maxRows) × (nodesOf (now instance) ≤ maxNodes) ⌝ }
     ensures { λ r.
         ⌜ Decides (WorkTooShort (tablesOf (stringTable (now (bytes .entry)) (now (ends .entry))) (now (schema .entry)) (now (instance .entry))) lent) r ⌝ }
@@ -77,4 +78,22 @@ pub fn is_short(bytes: &[u8], ends: &[u32], schema: &[u32], instance: &[u32], le
         return false;
     }
     lent / 3 <= longest(bytes, ends, instance)
+}
+
+// Code 12 for the work buffer: a fault at 0 where so many bytes are too few.
+pub fn check_work(
+    bytes: &[u8],
+    ends: &[u32],
+    schema: &[u32],
+    instance: &[u32],
+    lent: usize,
+) -> Checked
+    requires { ⌜ (rowsOf (now schema) ≤ maxRows) × (nodesOf (now instance) ≤ maxNodes) ⌝ }
+    ensures { λ r.
+        ⌜ Finds (WorkFault (tablesOf (stringTable (now (bytes .entry)) (now (ends .entry))) (now (schema .entry)) (now (instance .entry))) lent) r ⌝ }
+{
+    if is_short(bytes, ends, schema, instance, lent) {
+        return Checked::Fault(0);
+    }
+    Checked::Fine
 }

@@ -2,7 +2,7 @@
 -- instance.
 use Prim.Native.Nat.{ℕ, _*_, _≤_}
 use mathlib.Core.Path.{_≡_, refl, sym, _∙_, ap, subst}
-use mathlib.Core.Bool.{Bool, true, false, cond}
+use mathlib.Core.Bool.{Bool, true, false}
 use mathlib.Core.Logic.{_⊎_, inl, inr, ⊎-elim}
 use mathlib.Core.List.{List}
 use native.Mathlib.Omega.{arith}
@@ -28,8 +28,8 @@ use Rattle.matching_list.specs.MatchList.{MatchList, ListWritten, ListAnswer}
 use Rattle.matching_list.specs.declared.Answer.{Answer}
 use Rattle.matching_list.specs.declared.Answer.the-variants as answer
 use Rattle.relaxng.specs.Promises.{SchemaRefusal}
-use Rattle.matching_work.specs.Work.{WorkTooShort}
-use Rattle.relaxng.specs.Matching.{InstanceRefusal, WorkShort, WorkRefusal, GivesVerdict, ListTooShort, BufferShort, ListsMatches}
+use Rattle.matching_work.specs.Work.{WorkFault}
+use Rattle.relaxng.specs.Matching.{InstanceRefusal, WorkRefusal, GivesVerdict, ListTooShort, BufferShort, ListsMatches}
 use Rattle.relaxng.specs.Answers.{matchVerdict, isMatched, pairCount, validationOf, matchAnswer}
 use Rattle.relaxng.specs.declared.Validation.{Validation}
 use Rattle.relaxng.specs.declared.Validation.the-variants.{NotValidated}
@@ -92,15 +92,14 @@ module _ {J : Tables} where
     pub work-refused : {v : Verdict} {code place : ℕ} → v ≡ Refused code place → InstanceRefusal J Passes v → WorkRefusal J work v
     work-refused e = instance-map (λ p. absurd (refused-passed (sym e ∙ p)))
 
-    pub work-judged : {v w : Verdict} → v ≡ Passed → InstanceRefusal J Passes v → (short : Bool) → Decides (WorkTooShort J work) short → w ≡ cond short (Refused 12 0) Passed → WorkRefusal J work w
-    work-judged e r true d f = instance-go e r (λ p. rw f (refused 0 (refl, d) (λ i h. absurd (omega arith))))
-    work-judged e r false d f = instance-go e r (λ p. goes-on (λ i x. d (x .1)) f)
+    pub work-judged : {v w : Verdict} (x : Checked) → v ≡ Passed → InstanceRefusal J Passes v → Finds (WorkFault J work) x → w ≡ refusalOf 12 x → WorkRefusal J work w
+    work-judged x e r found h = instance-go e r (λ p. last-code 12 x found h)
 
     -- where nothing is refused the buffer is long enough
-    work-enough : {v : Verdict} → v ≡ Passed → WorkRefusal J work v → (i : ℕ) → ¬ WorkShort J work i
+    work-enough : {v : Verdict} → v ≡ Passed → WorkRefusal J work v → (i : ℕ) → ¬ WorkFault J work i
     work-enough e r = enough (tables-of (subst (WorkRefusal J work) e r) .1)
       where
-        enough : Tries 12 (WorkShort J work) Passes Passed → (i : ℕ) → ¬ WorkShort J work i
+        enough : Tries 12 (WorkFault J work) Passes Passed → (i : ℕ) → ¬ WorkFault J work i
         enough (goes-on n x) = n
 
     work-coded : {v : Verdict} → WorkRefusal J work v → Coded v
@@ -133,7 +132,7 @@ no-shorter all fit i x =
     omega arith
 
 -- a work buffer that is too short refuses, whatever the list is
-short-either : {J : Tables} {room work : ℕ} {v : Verdict} {code place : ℕ} → v ≡ Refused code place → Tries 12 (WorkShort J work) Passes v → Tries 12 (BufferShort J room work) Passes v
+short-either : {J : Tables} {room work : ℕ} {v : Verdict} {code place : ℕ} → v ≡ Refused code place → Tries 12 (WorkFault J work) Passes v → Tries 12 (BufferShort J room work) Passes v
 short-either e (refused p x c) = refused p (inl x) (λ i h. absurd (omega (arith, x .0)))
 short-either e (goes-on n p) = absurd (refused-passed (sym e ∙ p))
 

@@ -14,7 +14,7 @@ use Rattle.instance.specs.NodeRule.{NodeFault}
 use Rattle.instance.specs.Width.{WidthFault}
 use Rattle.matching_rules.specs.Job.{Valid}
 use Rattle.matching_list.specs.MatchList.{MatchList, ListWritten}
-use Rattle.matching_work.specs.Work.{WorkTooShort}
+use Rattle.matching_work.specs.Work.{WorkFault}
 use Rattle.relaxng.specs.Answers.{validationVerdict, matchVerdict, isValid, isMatched, pairCount}
 use Rattle.relaxng.specs.Promises.{SchemaRefusal}
 use Rattle.relaxng.specs.declared.Validation.{Validation}
@@ -24,13 +24,9 @@ use Rattle.relaxng.specs.declared.MatchAnswer.{MatchAnswer}
 abbrev pub InstanceRefusal : Tables → (Verdict → Type 0) → Verdict → Type 0
 InstanceRefusal J next = SchemaRefusal (J .strings) (J .schema) (Tries 9 (NodeFault (instanceStrings (J .strings)) (J .instance)) (Tries 10 (WidthFault (J .instance)) next))
 
--- code 12: the schema has a list, and the bytes lent for work are too few
-abbrev pub WorkShort : (J : Tables) (work place : ℕ) → Type 0
-WorkShort J work place = (place ≡ 0) × WorkTooShort J work
-
 -- codes 1 to 10, then 12 for so many bytes of work
 abbrev pub WorkRefusal : (J : Tables) (work : ℕ) → Verdict → Type 0
-WorkRefusal J work = InstanceRefusal J (Tries 12 (WorkShort J work) Passes)
+WorkRefusal J work = InstanceRefusal J (Tries 12 (WorkFault J work) Passes)
 
 -- the verdict on schema and instance with so many bytes for work, which are zero afterwards: valid exactly when nothing
 -- is refused and a derivation by (valid) of 9.4 exists
@@ -45,7 +41,7 @@ ListTooShort J room place = (place ≡ 0) × (l : List (ℕ × ℕ)) × MatchLis
 
 -- code 12 for either buffer
 abbrev pub BufferShort : (J : Tables) (room work place : ℕ) → Type 0
-BufferShort J room work place = WorkShort J work place ⊎ ListTooShort J room place
+BufferShort J room work place = WorkFault J work place ⊎ ListTooShort J room place
 
 -- the match list in a buffer of so many words, the number of its pairs, and valid exactly when a derivation by (valid)
 -- of 9.4 exists

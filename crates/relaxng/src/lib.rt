@@ -147,10 +147,10 @@ fn work_verdict(
     let Verdict::Passed = passed else {
         return passed;
     };
-    if matching_work::is_short(bytes, ends, schema, instance, lent) {
-        return Verdict::Refused(12, 0);
-    }
-    Verdict::Passed
+    tables::refusal(
+        12,
+        matching_work::check_work(bytes, ends, schema, instance, lent),
+    )
 }
 
 // Whether the instance is valid by the schema: codes 1 to 10, then 12 for the work buffer, which is left with zeros.

@@ -1,10 +1,11 @@
 -- What a schema that passes has, as matching needs it.
-use mathlib.Core.Path.{_≡_, refl, sym, _∙_, ap}
-use mathlib.Core.Bool.{Bool, true, false, false≢true}
+use mathlib.Core.Path.{_≡_, sym, _∙_, ap}
+use mathlib.Core.Bool.{true, false, false≢true}
 use mathlib.Core.Logic.{_≢_, _⊎_, inl, inr}
 use mathlib.Core.List.{List}
 use Prim.Native.Nat.{ℕ}
 use Rattle.tables.specs.Refusals.{goes-on}
+use Rattle.tables.proofs.Booleans.{is-false}
 use Rattle.tables.specs.declared.Verdict.the-variants.{Passed}
 use Rattle.schema.specs.Kinds as kind
 use Rattle.schema.specs.Rows.{kindOf, childA, childB}
@@ -45,22 +46,18 @@ module _ {strings : ℕ} {s : List ℕ} (p : SchemaPasses strings s) where
   repeats-flat r q m e b f c k = p .paths r (in-repeated-sharing q m k f c e b)
 
   -- what may not stand below a list (10.2.4), or below a data's except (10.2.5), does not
-  not-there : {A : Type 0} (b : Bool) → ¬ A → (b ≡ true → A) → b ≡ false
-  not-there true n f = absurd (n (f refl))
-  not-there false n f = refl
-
   pub list-flat : (r q : ℕ) → kindOf s q ≡ kind.list → Below s r q → notInList (kindOf s r) ≡ false
-  list-flat r q e b = not-there (notInList (kindOf s r)) (p .paths r) (λ f. in-list q f e b)
+  list-flat r q e b = is-false (notInList (kindOf s r)) (λ f. p .paths r (in-list q f e b))
 
   -- nor does notAllowed (clause 8)
   pub list-no-notAllowed : (r q : ℕ) → kindOf s q ≡ kind.list → Below s r q → kindOf s r ≢ kind.notAllowed
   list-no-notAllowed r q e b f =
       let u = below-parent b in
-      p .places r (notAllowed-inside (u .0) f (u .1) (not-there (holdsWhole (kindOf s (u .0))) (λ z. z) (whole-outside-of (u .2))))
+      p .places r (notAllowed-inside (u .0) f (u .1) (is-false (holdsWhole (kindOf s (u .0))) (whole-outside-of (u .2))))
     where
       whole-outside-of : {x : ℕ} → (x ≡ q) ⊎ Below s x q → holdsWhole (kindOf s x) ≡ true → ⊥
       whole-outside-of (inl i) h = false≢true (sym (ap holdsWhole (ap (kindOf s) i ∙ e)) ∙ h)
       whole-outside-of (inr d) h = whole-outside h d
 
   pub except-plain : (r q : ℕ) → kindOf s q ≡ kind.«data» → Below s r q → notInExcept (kindOf s r) ≡ false
-  except-plain r q e b = not-there (notInExcept (kindOf s r)) (p .paths r) (λ f. in-except q f e b)
+  except-plain r q e b = is-false (notInExcept (kindOf s r)) (λ f. p .paths r (in-except q f e b))

@@ -1,8 +1,5 @@
 -- Codes 1 to 10 stand; where they find nothing the tables are few enough to ask for the room.
-use mathlib.Core.Path.{refl, subst}
-use mathlib.Core.Bool.{true, false}
 use borrow.Author.Needs.{needs}
-use Rattle.tables.specs.Answers.{Decides}
 use Rattle.schema.proofs.RowLaws.{few-rows, right-size}
 use Rattle.instance.proofs.Size.{few-nodes}
 use Rattle.instance.specs.NodeRule.{bad-size}
@@ -28,24 +25,20 @@ same-length c = search needs
 returns : tie.Need-returns
 returns c = (work-refused _ (c .enum-told2 .given .1) (c .before .before .instance-verdict .ensures), c .before .before .before .before .before .zero-u8 .ensures)
 
-is-short-requires : tie.Need-is-short-requires
-is-short-requires c κs =
+check-work-requires : tie.Need-check-work-requires
+check-work-requires c κs =
     let pass = tables-pass (c .enum-told .given .1) (c .before .before .instance-verdict .ensures) in
     (few-rows (right-size (pass .schema .rows)), few-nodes (λ k i. pass .nodes k (bad-size i)))
+
+refusal-requires : tie.Need-refusal-requires
+refusal-requires c κs = search needs
 
 same-length-2 : tie.Need-same-length-2
 same-length-2 c = search needs
 
 returns-2 : tie.Need-returns-2
 returns-2 c =
-    (work-judged _ (c .before .before .enum-told .given .1) (c .before .before .before .before .instance-verdict .ensures) true (subst (Decides _) (c .if1 .taken) (c .before .is-short .ensures)) refl, c .before .before .before .before .before .before .before .zero-u8 .ensures)
-
-same-length-3 : tie.Need-same-length-3
-same-length-3 c = search needs
-
-returns-3 : tie.Need-returns-3
-returns-3 c =
-    (work-judged _ (c .before .before .enum-told .given .1) (c .before .before .before .before .instance-verdict .ensures) false (subst (Decides _) (c .if1 .left) (c .before .is-short .ensures)) refl, c .before .before .before .before .before .before .before .zero-u8 .ensures)
+    (work-judged _ (c .before .check-work .result) (c .before .before .enum-told .given .1) (c .before .before .before .before .instance-verdict .ensures) (c .before .check-work .ensures) (c .refusal .ensures), c .before .before .before .before .before .before .before .zero-u8 .ensures)
 
 pub work-verdict-spec : {M : Type 1} → statement M
 work-verdict-spec =
@@ -57,8 +50,7 @@ work-verdict-spec =
     enum-told-2
     same-length
     returns
-    is-short-requires
+    check-work-requires
+    refusal-requires
     same-length-2
-    returns-2
-    same-length-3
-    returns-3)
+    returns-2)

@@ -21,22 +21,22 @@ use Rattle.matching_tokens.proofs.Shapes.{childless}
 use Rattle.matching_tokens.proofs.Stepping.{nulls-below, stepped-empty, stepped-leaf, stepped-oneOrMore, two-stepped, stepped-choice, stepped-group}
 use Rattle.matching_tokens.proofs.group.Reads as group
 use Rattle.matching_tokens.proofs.group.Kinds as group-kinds
-use Rattle.matching_tokens.proofs.+group+one_or_more+step+two.Lts-group as group-lts
+use Rattle.matching_tokens.proofs.+group+one_or_more+step+two_parts.Lts-group as group-lts
 use Rattle.matching_tokens.proofs.one_or_more.Reads as one-or-more
 use Rattle.matching_tokens.proofs.one_or_more.Kinds as one-or-more-kinds
-use Rattle.matching_tokens.proofs.+group+one_or_more+step+two.Lts-one_or_more as one-or-more-lts
+use Rattle.matching_tokens.proofs.+group+one_or_more+step+two_parts.Lts-one_or_more as one-or-more-lts
 use Rattle.matching_tokens.proofs.step.Reads as step
 use Rattle.matching_tokens.proofs.step.Kinds as step-kinds
-use Rattle.matching_tokens.proofs.+group+one_or_more+step+two.Lts-step as step-lts
-use Rattle.matching_tokens.proofs.two.Reads as two
-use Rattle.matching_tokens.proofs.two.Kinds as two-kinds
-use Rattle.matching_tokens.proofs.+group+one_or_more+step+two.Lts-two as two-lts
-use Rattle.matching_tokens.proofs.goes.Reads as goes-reads
+use Rattle.matching_tokens.proofs.+group+one_or_more+step+two_parts.Lts-step as step-lts
+use Rattle.matching_tokens.proofs.two_parts.Reads as two-parts
+use Rattle.matching_tokens.proofs.two_parts.Kinds as two-parts-kinds
+use Rattle.matching_tokens.proofs.+group+one_or_more+step+two_parts.Lts-two_parts as two-parts-lts
+use Rattle.matching_tokens.proofs.both_or.Reads as both-or-reads
 use Rattle.matching_tokens.proofs.is_marked.Reads as is-marked-reads
 use Rattle.matching_tokens.proofs.leaf.Reads as leaf-reads
 use Rattle.matching_tokens.proofs.put.Reads as put-reads
-use Rattle.matching_tokens.proofs.+group+one_or_more+step+two.{statement}
-use Rattle.matching_tokens.proofs.+group+one_or_more+step+two.Tie.{close}
+use Rattle.matching_tokens.proofs.+group+one_or_more+step+two_parts.{statement}
+use Rattle.matching_tokens.proofs.+group+one_or_more+step+two_parts.Tie.{close}
 
 abbrev μ-group : Measures 7 group-kinds.ps ℕ
 μ-group κs a = 3 * a .1 .1 .1 .1 .1 .0 + 1
@@ -47,8 +47,8 @@ abbrev μ-one-or-more : Measures 7 one-or-more-kinds.ps ℕ
 abbrev μ-step : Measures 7 step-kinds.ps ℕ
 μ-step κs a = 3 * a .1 .1 .1 .1 .1 .0 + 2
 
-abbrev μ-two : Measures 7 two-kinds.ps ℕ
-μ-two κs a = 3 * a .1 .1 .1 .1 .1 .0
+abbrev μ-two-parts : Measures 7 two-parts-kinds.ps ℕ
+μ-two-parts κs a = 3 * a .1 .1 .1 .1 .1 .0
 
 module _ (t : ℕ) where
   abbrev group-at : In 7 group-kinds.ps
@@ -69,23 +69,23 @@ module _ (t : ℕ) where
   abbrev step-below : In 7 step-kinds.ps
   step-below = and 7 step-kinds.ps (falls 7 step-kinds.ps _<_ μ-step t) step.Pre
 
-  abbrev two-at : In 7 two-kinds.ps
-  two-at = and 7 two-kinds.ps (is 7 two-kinds.ps μ-two t) two.Pre
+  abbrev two-parts-at : In 7 two-parts-kinds.ps
+  two-parts-at = and 7 two-parts-kinds.ps (is 7 two-parts-kinds.ps μ-two-parts t) two-parts.Pre
 
-  abbrev two-below : In 7 two-kinds.ps
-  two-below = and 7 two-kinds.ps (falls 7 two-kinds.ps _<_ μ-two t) two.Pre
+  abbrev two-parts-below : In 7 two-parts-kinds.ps
+  two-parts-below = and 7 two-parts-kinds.ps (falls 7 two-parts-kinds.ps _<_ μ-two-parts t) two-parts.Pre
 
   abbrev group-calls : group-lts.Claims
-  group-calls = (field-a-reads.Asked, field-a-reads.Learnt, is-marked-reads.Asked, is-marked-reads.Learnt, goes-reads.Asked, goes-reads.Learnt, field-b-reads.Asked, field-b-reads.Learnt, two-below, two.Post)
+  group-calls = (field-a-reads.Asked, field-a-reads.Learnt, is-marked-reads.Asked, is-marked-reads.Learnt, both-or-reads.Asked, both-or-reads.Learnt, field-b-reads.Asked, field-b-reads.Learnt, two-parts-below, two-parts.Post)
 
   abbrev one-or-more-calls : one-or-more-lts.Claims
-  one-or-more-calls = (field-a-reads.Asked, field-a-reads.Learnt, is-marked-reads.Asked, is-marked-reads.Learnt, goes-reads.Asked, goes-reads.Learnt, step-below, step.Post, put-reads.Asked, put-reads.Learnt)
+  one-or-more-calls = (field-a-reads.Asked, field-a-reads.Learnt, is-marked-reads.Asked, is-marked-reads.Learnt, both-or-reads.Asked, both-or-reads.Learnt, step-below, step.Post, put-reads.Asked, put-reads.Learnt)
 
   abbrev step-calls : step-lts.Claims
-  step-calls = (kind-reads.Asked, kind-reads.Learnt, one-or-more-below, one-or-more.Post, two-below, two.Post, group-below, group.Post, leaf-reads.Asked, leaf-reads.Learnt)
+  step-calls = (kind-reads.Asked, kind-reads.Learnt, one-or-more-below, one-or-more.Post, two-parts-below, two-parts.Post, group-below, group.Post, leaf-reads.Asked, leaf-reads.Learnt)
 
-  abbrev two-calls : two-lts.Claims
-  two-calls = (field-a-reads.Asked, field-a-reads.Learnt, field-b-reads.Asked, field-b-reads.Learnt, step-below, step.Post, goes-reads.Asked, goes-reads.Learnt, put-reads.Asked, put-reads.Learnt)
+  abbrev two-parts-calls : two-parts-lts.Claims
+  two-parts-calls = (field-a-reads.Asked, field-a-reads.Learnt, field-b-reads.Asked, field-b-reads.Learnt, step-below, step.Post, both-or-reads.Asked, both-or-reads.Learnt, put-reads.Asked, put-reads.Learnt)
 
   group-field-a-requires : group-lts.Need-field-a-requires group-calls group-at group.Post
   group-field-a-requires c κs = tt
@@ -96,8 +96,8 @@ module _ (t : ℕ) where
   group-is-marked-requires-2 : group-lts.Need-is-marked-requires-2 group-calls group-at group.Post
   group-is-marked-requires-2 c κs = tt
 
-  group-goes-requires : group-lts.Need-goes-requires group-calls group-at group.Post
-  group-goes-requires c κs = tt
+  group-both-or-requires : group-lts.Need-both-or-requires group-calls group-at group.Post
+  group-both-or-requires c κs = tt
 
   group-field-b-requires : group-lts.Need-field-b-requires group-calls group-at group.Post
   group-field-b-requires c κs = tt
@@ -105,8 +105,8 @@ module _ (t : ℕ) where
   group-is-marked-requires-3 : group-lts.Need-is-marked-requires-3 group-calls group-at group.Post
   group-is-marked-requires-3 c κs = tt
 
-  group-two-requires : group-lts.Need-two-requires group-calls group-at group.Post
-  group-two-requires c κs =
+  group-two-parts-requires : group-lts.Need-two-parts-requires group-calls group-at group.Post
+  group-two-parts-requires c κs =
       let at = c .before .before .before .before .before .before .before .before .before .before .before .before .before .before .before in
       let a = at .args in
       let T = stringTable (now (a .bytes)) (now (a .ends)) in
@@ -123,11 +123,11 @@ module _ (t : ℕ) where
       let a = at .args in
       let T = stringTable (now (a .bytes)) (now (a .ends)) in
       let s = now (a .schema) in
-      let d = c .before .before .two in
+      let d = c .before .before .two-parts in
       let k = at .pre .1 .2 in
       let passes = at .pre .1 .0 .passes in
       let x = c .before .before .before .before .before .before .before .before .before .before .field-a .ensures in
-      let g = c .before .before .before .before .before .before .goes in
+      let g = c .before .before .before .before .before .before .both-or in
       let z = c .before .before .before .before .is-marked3 in
       let entered : g .result ≡ (a .enter && marked (now (a .nothing)) (aOf s (a .p)) || marked (now (a .marks)) (aOf s (a .p))) =
       g .ensures ∙ rw (c .before .before .before .before .before .before .before .before .before .is-marked .ensures ∙ ap (marked (now (a .nothing))) x, c .before .before .before .before .before .before .before .is-marked2 .ensures ∙ ap (marked (now (a .marks))) x) refl in
@@ -141,8 +141,8 @@ module _ (t : ℕ) where
   one-or-more-is-marked-requires : one-or-more-lts.Need-is-marked-requires one-or-more-calls one-or-more-at one-or-more.Post
   one-or-more-is-marked-requires c κs = tt
 
-  one-or-more-goes-requires : one-or-more-lts.Need-goes-requires one-or-more-calls one-or-more-at one-or-more.Post
-  one-or-more-goes-requires c κs = tt
+  one-or-more-both-or-requires : one-or-more-lts.Need-both-or-requires one-or-more-calls one-or-more-at one-or-more.Post
+  one-or-more-both-or-requires c κs = tt
 
   one-or-more-step-requires : one-or-more-lts.Need-step-requires one-or-more-calls one-or-more-at one-or-more.Post
   one-or-more-step-requires c κs =
@@ -167,7 +167,7 @@ module _ (t : ℕ) where
       let T = stringTable (now (a .bytes)) (now (a .ends)) in
       let s = now (a .schema) in
       let x = c .before .before .before .before .before .before .before .before .before .before .before .field-a in
-      let g = c .before .before .before .before .before .before .before .before .goes in
+      let g = c .before .before .before .before .before .before .before .before .both-or in
       let d = c .before .before .before .before .before .before .step in
       let l = repeat-falls T s (at .pre .1 .0 .passes) (a .p) (at .pre .1 .2) in
       stepped-oneOrMore T s (a .p) (a .enter) (now (a .token)) (x .result) (g .result) (now (a .marks)) (d .last .1 .1 .1 .1 .1 .1 .1 .1 .0) (c .before .before .put .last .0) (d .result)
@@ -182,8 +182,8 @@ module _ (t : ℕ) where
       let at = c .before .before .before .before .before .before .before .before .before .before in
       (omega arith, (at .pre .1 .0, at .pre .1 .1, sym (c .before .before .kind .ensures) ∙ c .before .match .keys1))
 
-  step-two-requires : step-lts.Need-two-requires step-calls step-at step.Post
-  step-two-requires c κs =
+  step-two-parts-requires : step-lts.Need-two-parts-requires step-calls step-at step.Post
+  step-two-parts-requires c κs =
       let at = c .before .before .before .before .before .before .before .before .before .before in
       let a = at .args in
       let T = stringTable (now (a .bytes)) (now (a .ends)) in
@@ -221,7 +221,7 @@ module _ (t : ℕ) where
       let a = at .args in
       let T = stringTable (now (a .bytes)) (now (a .ends)) in
       let s = now (a .schema) in
-      let d = c .before .before .two in
+      let d = c .before .before .two-parts in
       stepped-choice T s (a .p) (a .enter) (now (a .token)) (now (a .marks)) (d .last .1 .1 .1 .1 .1 .1 .1 .1 .1 .1 .0) (d .result) (d .ensures) (patterns.choice-at s (a .p) (sym (c .before .before .before .before .before .kind .ensures) ∙ c .before .before .before .before .match .keys2))
 
   step-same-length-3 : step-lts.Need-same-length-3 step-calls step-at step.Post
@@ -264,14 +264,14 @@ module _ (t : ℕ) where
       stepped-empty T s (a .p) (a .enter) (now (a .token)) (now (a .marks))
       (λ i. childless (tablesOf T s i) (a .p) (λ z. omega (arith, e)) (λ z. omega (arith, e)) (λ z. rest .0 .0 .1 (e ∙ z)) (λ z. rest .0 .1 (e ∙ z)) (λ z. rest .1 (e ∙ z)))
 
-  two-field-a-requires : two-lts.Need-field-a-requires two-calls two-at two.Post
-  two-field-a-requires c κs = tt
+  two-parts-field-a-requires : two-parts-lts.Need-field-a-requires two-parts-calls two-parts-at two-parts.Post
+  two-parts-field-a-requires c κs = tt
 
-  two-field-b-requires : two-lts.Need-field-b-requires two-calls two-at two.Post
-  two-field-b-requires c κs = tt
+  two-parts-field-b-requires : two-parts-lts.Need-field-b-requires two-parts-calls two-parts-at two-parts.Post
+  two-parts-field-b-requires c κs = tt
 
-  two-step-requires : two-lts.Need-step-requires two-calls two-at two.Post
-  two-step-requires c κs =
+  two-parts-step-requires : two-parts-lts.Need-step-requires two-parts-calls two-parts-at two-parts.Post
+  two-parts-step-requires c κs =
       let at = c .before .before .before .before .before .before .before .before .before .before in
       let a = at .args in
       let T = stringTable (now (a .bytes)) (now (a .ends)) in
@@ -279,8 +279,8 @@ module _ (t : ℕ) where
       let x = c .before .before .field-a .ensures in
       (omega (arith, x, at .pre .1 .2), (at .pre .1 .0, nulls-below T s (now (a .nothing)) (at .pre .1 .1) (omega (arith, x, at .pre .1 .2))))
 
-  two-step-requires-2 : two-lts.Need-step-requires-2 two-calls two-at two.Post
-  two-step-requires-2 c κs =
+  two-parts-step-requires-2 : two-parts-lts.Need-step-requires-2 two-parts-calls two-parts-at two-parts.Post
+  two-parts-step-requires-2 c κs =
       let at = c .before .before .before .before .before .before .before .before .before .before .before .before .before .before in
       let a = at .args in
       let T = stringTable (now (a .bytes)) (now (a .ends)) in
@@ -288,17 +288,17 @@ module _ (t : ℕ) where
       let x = c .before .before .before .before .before .field-b .ensures in
       (omega (arith, x, at .pre .1 .3), (at .pre .1 .0, nulls-below T s (now (a .nothing)) (at .pre .1 .1) (omega (arith, x, at .pre .1 .3))))
 
-  two-goes-requires : two-lts.Need-goes-requires two-calls two-at two.Post
-  two-goes-requires c κs = tt
+  two-parts-both-or-requires : two-parts-lts.Need-both-or-requires two-parts-calls two-parts-at two-parts.Post
+  two-parts-both-or-requires c κs = tt
 
-  two-put-requires : two-lts.Need-put-requires two-calls two-at two.Post
-  two-put-requires c κs = tt
+  two-parts-put-requires : two-parts-lts.Need-put-requires two-parts-calls two-parts-at two-parts.Post
+  two-parts-put-requires c κs = tt
 
-  two-same-length : two-lts.Need-same-length two-calls two-at two.Post
-  two-same-length c = omega arith
+  two-parts-same-length : two-parts-lts.Need-same-length two-parts-calls two-parts-at two-parts.Post
+  two-parts-same-length c = omega arith
 
-  two-returns : two-lts.Need-returns two-calls two-at two.Post
-  two-returns c =
+  two-parts-returns : two-parts-lts.Need-returns two-parts-calls two-parts-at two-parts.Post
+  two-parts-returns c =
       let at = c .before .before .before .before .before .before .before .before .before .before .before .before .before .before .before .before .before .before .before .before .before .before in
       let a = at .args in
       let T = stringTable (now (a .bytes)) (now (a .ends)) in
@@ -307,18 +307,18 @@ module _ (t : ℕ) where
       let y = c .before .before .before .before .before .before .before .before .before .before .before .before .before .field-b in
       let d = c .before .before .before .before .before .before .before .before .before .before .before .step in
       let e = c .before .before .before .before .before .before .before .step2 in
-      let g = c .before .before .before .before .goes in
+      let g = c .before .before .before .before .both-or in
       two-stepped T s (a .p) (a .enter) (now (a .token)) (x .result) (y .result) (a .onward) (a .last) (d .result) (e .result) (g .result) (now (a .marks))
       (d .last .1 .1 .1 .1 .1 .1 .1 .1 .0) (e .last .1 .1 .1 .1 .1 .1 .1 .1 .0) (c .before .before .put .last .0)
       (x .ensures) (y .ensures) (at .pre .1 .2) (at .pre .1 .3) (d .ensures) (e .ensures) (g .ensures) (c .before .before .put .ensures)
 
-pub +group+one-or-more+step+two-spec : {M : Type 1} → statement M
-+group+one-or-more+step+two-spec =
+pub +group+one-or-more+step+two-parts-spec : {M : Type 1} → statement M
++group+one-or-more+step+two-parts-spec =
     close
     μ-group
     μ-one-or-more
     μ-step
-    μ-two
+    μ-two-parts
     (λ t. group-lts.spec
     (group-calls t)
     (group-at t)
@@ -326,10 +326,10 @@ pub +group+one-or-more+step+two-spec : {M : Type 1} → statement M
     (group-field-a-requires t)
     (group-is-marked-requires t)
     (group-is-marked-requires-2 t)
-    (group-goes-requires t)
+    (group-both-or-requires t)
     (group-field-b-requires t)
     (group-is-marked-requires-3 t)
-    (group-two-requires t)
+    (group-two-parts-requires t)
     (group-same-length t)
     (group-returns t))
     (λ t. one-or-more-lts.spec
@@ -338,7 +338,7 @@ pub +group+one-or-more+step+two-spec : {M : Type 1} → statement M
     one-or-more.Post
     (one-or-more-field-a-requires t)
     (one-or-more-is-marked-requires t)
-    (one-or-more-goes-requires t)
+    (one-or-more-both-or-requires t)
     (one-or-more-step-requires t)
     (one-or-more-put-requires t)
     (one-or-more-same-length t)
@@ -349,7 +349,7 @@ pub +group+one-or-more+step+two-spec : {M : Type 1} → statement M
     step.Post
     (step-kind-requires t)
     (step-one-or-more-requires t)
-    (step-two-requires t)
+    (step-two-parts-requires t)
     (step-group-requires t)
     (step-leaf-requires t)
     (step-same-length t)
@@ -362,15 +362,15 @@ pub +group+one-or-more+step+two-spec : {M : Type 1} → statement M
     (step-returns-4 t)
     (step-returns-5 t)
     (step-returns-6 t))
-    (λ t. two-lts.spec
-    (two-calls t)
-    (two-at t)
-    two.Post
-    (two-field-a-requires t)
-    (two-field-b-requires t)
-    (two-step-requires t)
-    (two-step-requires-2 t)
-    (two-goes-requires t)
-    (two-put-requires t)
-    (two-same-length t)
-    (two-returns t))
+    (λ t. two-parts-lts.spec
+    (two-parts-calls t)
+    (two-parts-at t)
+    two-parts.Post
+    (two-parts-field-a-requires t)
+    (two-parts-field-b-requires t)
+    (two-parts-step-requires t)
+    (two-parts-step-requires-2 t)
+    (two-parts-both-or-requires t)
+    (two-parts-put-requires t)
+    (two-parts-same-length t)
+    (two-parts-returns t))
