@@ -1,9 +1,9 @@
 -- Each case of the enum by its own.
 use mathlib.Core.Path.{sym, ap, _∙_}
 use borrow.Author.Needs.{needs}
-use Rattle.capi.specs.Packed.{packedVerdict}
-use Rattle.capi.proofs.pack_verdict.Statement.{statement}
-use Rattle.capi.proofs.pack_verdict.Tie as tie
+use Rattle.farshavan.specs.Packed.{packedVerdict}
+use Rattle.farshavan.proofs.pack_verdict.Statement.{statement}
+use Rattle.farshavan.proofs.pack_verdict.Tie as tie
 
 enum-told : tie.Need-enum-told
 enum-told c = search needs

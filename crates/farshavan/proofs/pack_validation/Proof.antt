@@ -1,9 +1,9 @@
 -- Each case of the enum by its own.
 use mathlib.Core.Path.{sym, ap, _∙_}
+use Rattle.farshavan.specs.Packed.{packedValidation}
 use borrow.Author.Needs.{needs}
-use Rattle.capi.specs.Packed.{packedMembership}
-use Rattle.capi.proofs.pack_membership.Statement.{statement}
-use Rattle.capi.proofs.pack_membership.Tie as tie
+use Rattle.farshavan.proofs.pack_validation.Statement.{statement}
+use Rattle.farshavan.proofs.pack_validation.Tie as tie
 
 enum-told : tie.Need-enum-told
 enum-told c = search needs
@@ -24,10 +24,10 @@ returns-2 : tie.Need-returns-2
 returns-2 c = search needs
 
 returns-3 : tie.Need-returns-3
-returns-3 c = c .pack-refusal .ensures ∙ sym (ap packedMembership (c .before .before .answer .given .1))
+returns-3 c = c .pack-refusal .ensures ∙ sym (ap packedValidation (c .before .before .answer .given .1))
 
-pub pack-membership-spec : {M : Type 1} → statement M
-pack-membership-spec =
+pub pack-validation-spec : {M : Type 1} → statement M
+pack-validation-spec =
     tie.close
     (tie.spec
     enum-told

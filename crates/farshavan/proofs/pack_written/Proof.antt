@@ -1,7 +1,7 @@
 -- A length, or a code and a place.
-use Rattle.capi.proofs.pack_written.Statement.{statement}
-use Rattle.capi.proofs.pack_written.Tie as tie
-use Rattle.capi.specs.Packed.{packedWritten}
+use Rattle.farshavan.proofs.pack_written.Statement.{statement}
+use Rattle.farshavan.proofs.pack_written.Tie as tie
+use Rattle.farshavan.specs.Packed.{packedWritten}
 use borrow.Author.Needs.{needs}
 use mathlib.Core.Path.{_∙_, ap, sym}
 
