@@ -53,7 +53,8 @@ item = item { (label?, p+, list?) | (text | emphasis | xref)+ }
 back = back { acknowledgement?, references }
 acknowledgement = acknowledgement { p.note+ }
 references = references { title.plain?, reference+ }
-reference = reference { @id{token}, @type{"journal" | "book"}, (text & persons & year & source & title.plain? & pages?) }
+reference = reference { @id{token}, @type{"journal" | "book"},
+    (text & persons & year & source & title.plain? & pages?) }
 persons = persons { (text | surname)+ }
 source = source { (text | emphasis)+ }
 pages = pages { token }
@@ -155,7 +156,11 @@ impl Author<'_> {
         let author = |(k, (given, surname)): (usize, (&str, &str))| {
             let parts = vec![text_in("given", given), text_in("surname", surname), xref("affiliation", 1 + k % 2)];
             let author = element("author", parts).with("id", &format!("au{}", k + 1));
-            if k == 0 { author.with("corresponding", "yes") } else { author }
+            if k == 0 {
+                author.with("corresponding", "yes")
+            } else {
+                author
+            }
         };
         let affiliation = |k: usize| {
             let institution = text_in("institution", ["Institute of Cells", "School of Water"][k - 1]);
@@ -272,10 +277,14 @@ impl Element {
     }
     fn xml(&self) -> String {
         let attributes: String = self.attributes.iter().map(|(name, value)| format!(" {name}=\"{value}\"")).collect();
-        let content: String = self.children.iter().map(|child| match child {
-            Child::Element(inner) => inner.xml(),
-            Child::Text(text) => text.clone(),
-        }).collect();
+        let content: String = self
+            .children
+            .iter()
+            .map(|child| match child {
+                Child::Element(inner) => inner.xml(),
+                Child::Text(text) => text.clone(),
+            })
+            .collect();
         format!("<{}{attributes}>{content}</{}>", self.name, self.name)
     }
 }

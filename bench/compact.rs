@@ -202,7 +202,8 @@ impl Grammar {
         let mut job = Job { strings: vec![vec![]], ..Job::default() };
         let mut rows = vec![];
         for definition in &self.definitions {
-            let (class, content) = (self.name(&mut job, &definition.element), self.pattern(&mut job, &definition.content));
+            let class = self.name(&mut job, &definition.element);
+            let content = self.pattern(&mut job, &definition.content);
             rows.push(row(&mut job, [20, class, content]));
         }
         let start = row(&mut job, [8, self.place(&self.start) as u32, 0]);
@@ -219,8 +220,8 @@ impl Grammar {
         let open = "<grammar xmlns=\"http://relaxng.org/ns/structure/1.0\" datatypeLibrary=\"\">";
         let mut out = format!("{open}\n<start><ref name=\"{}\"/></start>\n", self.start);
         for Definition { name, element, content } in &self.definitions {
-            let content = xml(content);
-            out += &format!("<define name=\"{name}\"><element><name ns=\"\">{element}</name>{content}</element></define>\n");
+            let element = format!("<element><name ns=\"\">{element}</name>{}</element>", xml(content));
+            out += &format!("<define name=\"{name}\">{element}</define>\n");
         }
         out + "</grammar>\n"
     }
@@ -232,7 +233,9 @@ fn xml(pattern: &Pattern) -> String {
         Pattern::Text => "<text/>".to_string(),
         Pattern::Token => "<data type=\"token\"/>".to_string(),
         Pattern::Value(value) => format!("<value type=\"token\">{value}</value>"),
-        Pattern::Attribute(name, content) => format!("<attribute><name ns=\"\">{name}</name>{}</attribute>", xml(content)),
+        Pattern::Attribute(name, content) => {
+            format!("<attribute><name ns=\"\">{name}</name>{}</attribute>", xml(content))
+        }
         Pattern::Ref(name) => format!("<ref name=\"{name}\"/>"),
         Pattern::OneOrMore(a) => format!("<oneOrMore>{}</oneOrMore>", xml(a)),
         Pattern::Pair(kind, a, b) => {

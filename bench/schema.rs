@@ -1,17 +1,8 @@
-// How long the schema verdict takes on the largest schemas of each shape that is slow in some checker.
-// Build: rt staticlib capi && rustc -O --edition 2021 -L target/staticlib -l static=capi -o target/bench_schema bench/schema.rs
-use std::time::Instant;
+// How long the schema verdict takes on the largest schemas of each shape that is slow in some checker: lines of a
+// Markdown table. bench/run builds it with the crate of bindings/rust and runs it.
 
-extern "C" {
-    fn farshavan_schema_verdict(
-        bytes: *const u8,
-        bytes_len: usize,
-        ends: *const u32,
-        ends_len: usize,
-        schema: *const u32,
-        schema_len: usize,
-    ) -> u64;
-}
+use farshavan::{schema_verdict, Strings};
+use std::time::Instant;
 
 struct Schema(Vec<u32>);
 
@@ -60,28 +51,16 @@ fn strings(shared: usize) -> (Vec<u8>, Vec<u32>) {
 
 fn report(name: &str, shared: usize, schema: &[u32]) {
     let (bytes, ends) = strings(shared);
-    let mut best = None;
-    let mut verdict = 0;
-    for _ in 0..5 {
+    let strings = Strings { bytes: &bytes, ends: &ends };
+    let timed = || {
         let began = Instant::now();
-        verdict = unsafe {
-            farshavan_schema_verdict(
-                bytes.as_ptr(),
-                bytes.len(),
-                ends.as_ptr(),
-                ends.len(),
-                schema.as_ptr(),
-                schema.len(),
-            )
-        };
-        let took = began.elapsed();
-        best = Some(best.map_or(took, |b| took.min(b)));
-    }
-    let milliseconds = best.unwrap().as_secs_f64() * 1e3;
-    println!(
-        "{name}: {} rows, verdict {verdict:X}, {milliseconds:.1} ms",
-        schema.len() / 3
-    );
+        let verdict = schema_verdict(strings, schema);
+        (began.elapsed(), verdict)
+    };
+    let runs: Vec<_> = (0..5).map(|_| timed()).collect();
+    let (best, verdict) = runs.into_iter().min_by_key(|run| run.0).expect("five runs");
+    assert_eq!(verdict, Ok(()), "{name} is a schema that passes");
+    println!("| {name} | {} | {:.2} |", schema.len() / 3, best.as_secs_f64() * 1e3);
 }
 
 fn two_classes(apart: bool) -> Vec<u32> {
@@ -131,23 +110,11 @@ fn chain() -> Vec<u32> {
 }
 
 fn main() {
-    report(
-        "two classes of 125 names, all numbers distinct",
-        0,
-        &two_classes(true),
-    );
-    report(
-        "two classes of 125 names in one namespace",
-        0,
-        &two_classes(false),
-    );
+    report("two attribute classes of 125 names in a group, all numbers distinct", 0, &two_classes(true));
+    report("the same in one namespace", 0, &two_classes(false));
     report("group of 126 attributes", 0, &attributes(11));
     report("interleave of 126 attributes", 0, &attributes(12));
     report("interleave of 100 refs", 0, &refs());
     report("oneOrMore 507 deep", 0, &chain());
-    report(
-        "strings that differ in their last bytes",
-        30,
-        &[2, 0, 0, 21, 0, 0],
-    );
+    report("512 strings that share all but their last bytes", 30, &[2, 0, 0, 21, 0, 0]);
 }

@@ -62,6 +62,13 @@ fn attributes_of(row: u32, locals: &[u32], string: u32) -> Vec<u32> {
     locals.iter().flat_map(|&local| [2, row, 0, local, string]).collect()
 }
 
+/// A root 0:1 and fifteen children of its name, each with attributes of these 63 names, all with string 2.
+fn sixteen_with(locals: &[u32]) -> Vec<u32> {
+    let parent = |k: u32| if k == 0 { NONE } else { 0 };
+    let element = |k: u32| [vec![1, parent(k), 0, 1, 0], attributes_of(64 * k, locals, 2)].concat();
+    (0..16).flat_map(element).collect()
+}
+
 /// A root 0:1 with attributes of these names, all with string 1, and then empty elements of these names.
 fn flat(attributes: &[u32], elements: &[u32]) -> Vec<u32> {
     let children = elements.iter().flat_map(|&local| [1, 0, 0, local, 0]).collect();
@@ -111,7 +118,7 @@ fn nested() -> Vec<Slow> {
         slow("group_right", of(62, groups, true), true, 63, "247 groups nested right, 62 children"),
         slow("optional_left", of(63, optional, false), true, 64, "100 optional repeats grouped left, 63 children"),
         slow("optional_right", of(63, optional, true), true, 64, "100 optional repeats grouped right, 63 children"),
-        slow("repeat_of_groups", of(63, &both, true), true, 64, "oneOrMore around each of 100 nested groups, 63 children"),
+        slow("repeat_of_groups", of(63, &both, true), true, 64, "oneOrMore around each of 100 groups, 63 children"),
     ]
 }
 
@@ -126,12 +133,13 @@ fn interleaved() -> Vec<Slow> {
     let missing = &back(2, 60)[..59];
     let (left, right) = (of(60, "$#", false, &back(2, 60)), of(60, "$#", true, &back(2, 60)));
     let optional = of(70, "| empty $#", true, &back(2, 63));
+    let repeats = of(31, "+ $#", false, &twice);
     vec![
         slow("interleave_left", left, true, 61, "60-fold interleave nested left, in reverse"),
         slow("interleave_right", right, true, 61, "60-fold interleave nested right, in reverse"),
         slow("interleave_missing", of(60, "$#", true, missing), false, 59, "the same, one child missing"),
         slow("interleave_optional", optional, true, 64, "70-fold interleave of optional elements, 63 there"),
-        slow("interleave_repeats", of(31, "+ $#", false, &twice), true, 63, "31-fold interleave of oneOrMore, each twice"),
+        slow("interleave_repeats", repeats, true, 63, "31-fold interleave of oneOrMore, each twice"),
         slow("interleave_100", of(100, "$#", true, &back(2, 63)), false, 63, "100-fold interleave, 63 there"),
     ]
 }
@@ -151,7 +159,7 @@ fn attributes() -> Vec<Slow> {
         slow("attributes_126", of(512, all, true, 64), false, 0, "group of 126 attributes over 512 strings, 63 there"),
         slow("attributes_63", of(512, some, false, 1), true, 1, "group of 63 attributes over 512 strings, in reverse"),
         slow("attributes_group", of(512, group, true, 22), true, 1, "group of 84 optional attributes, 63 there"),
-        slow("attributes_interleave", of(512, interleave, false, 22), true, 1, "the same as an interleave, nested left"),
+        slow("attributes_interleave", of(512, interleave, false, 22), true, 1, "the same as interleave, nested left"),
         slow("attributes_class", of(512, class, true, 187), true, 1, "63 attributes, the last names of a class of 249"),
     ]
 }
@@ -195,7 +203,7 @@ fn one_definition() -> Vec<Slow> {
         slow("loose_wide", of(loose, wide()), true, NODES, "1,024 elements, 100 optional repeats grouped, 63 children"),
         slow("loose_deep", of(loose, deep()), true, NODES, "the same, one child each"),
         slow("groups_wide", of(&both, wide()), true, NODES, "1,024 elements, oneOrMore around 100 groups, 63 children"),
-        slow("groups_mixed", of(&both, mixed), true, 520, "520 elements against the same, texts between 31 children each"),
+        slow("groups_mixed", of(&both, mixed), true, 520, "520 elements against these, texts between 31 children each"),
     ]
 }
 
@@ -237,9 +245,8 @@ fn texts() -> Vec<Slow> {
     let long = |word: &str, end: &str| (word.repeat(2_700) + end).into_bytes();
     let words = [vec![long("a ", "x"), long("a  ", "y")], (0..62).map(pair).collect()].concat();
     let locals: Vec<u32> = (1..64).collect();
-    let element = |k: u32| [vec![1, if k == 0 { NONE } else { 0 }, 0, 1, 0], attributes_of(64 * k, &locals, 2)].concat();
     let values = "element * + @ * (| 1 250 value) start $0";
-    let values = with(words, values, (0..16).flat_map(element).collect());
+    let values = with(words, values, sixteen_with(&locals));
     let alike = (1..512u16).map(|k| [vec![b'a'; 30], k.to_be_bytes().to_vec()].concat()).collect();
     let spaces = with(spaces, "element * (| 1 252 value) start $0", one_text(1));
     let alike = with(alike, "element * text start $0", one_text(1));
@@ -267,7 +274,7 @@ fn lists() -> Vec<Slow> {
     vec![
         slow("list_repeats", of(&repeats, true, full()), true, 1, "a list of oneOrMore 250 deep, 8,000 tokens"),
         slow("list_repeats_last", of(&repeats, true, last()), false, 0, "the same, another last token"),
-        slow("list_choice_left", of(choices, false, full()), true, 1, "a list of 160 choices nested left, 8,000 tokens"),
+        slow("list_choice_left", of(choices, false, full()), true, 1, "list of 160 choices nested left, 8,000 tokens"),
         slow("list_choice_right", of(choices, true, full()), true, 1, "the same nested right"),
         slow("list_optional_left", of(optional, false, full()), true, 1, "100 optional repeats grouped left, as many"),
         slow("list_optional_right", of(optional, true, last()), false, 0, "the same grouped right, another last token"),
@@ -310,11 +317,10 @@ fn list_texts() -> Vec<Slow> {
     let lists = "element * | + $0 (| 1 124 list + value) start $0";
     let apart = job_over(apart, lists, true, leaf_texts(511, |k| 2 + k % 508));
     let locals: Vec<u32> = (3..66).collect();
-    let element = |k: u32| [vec![1, if k == 0 { NONE } else { 0 }, 0, 1, 0], attributes_of(64 * k, &locals, 2)].concat();
     let attributes = format!("element * , + @ * list {deep}value | empty + $0 start $0");
     let names = (0..63).map(pair);
     let strings = text().into_iter().chain(names).collect();
-    let attributes = job_over(strings, &attributes, true, (0..16).flat_map(element).collect());
+    let attributes = job_over(strings, &attributes, true, sixteen_with(&locals));
     let blanks = |token: &str| vec![(" ".repeat(8_000) + "a").into_bytes(), token.repeat(4_000).into_bytes()];
     let equal = job_over(blanks("a "), "element * list + (| 1 250 value) start $0", true, one_text(2));
     let unequal = job_over(blanks("b "), "element * list + | (| 1 249 value) token start $0", false, one_text(2));

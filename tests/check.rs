@@ -1,5 +1,5 @@
-// Runs the built program, target/bin/validator, and compares its whole output: on the jobs of tests/jobs with the outputs
-// beside them, on every damage of one byte of the job of document 01, on random jobs and an article with the answers of
+// Runs the built program, target/bin/validator, and compares its whole output: on the jobs of tests/jobs with their
+// outputs, on every damage of one byte of the job of case P1, on random jobs and an article with the answers of
 // the reference, on the jobs that look slow with these and with what is known by construction, and at the limits of the
 // input. Each run has the stack of a common shell and a time limit. Each single comparison is one test. The last line
 // printed is `N passed, M failed`. Run at the top of the repository.
@@ -54,10 +54,26 @@ fn compare(y: &mut Tally, what: &str, file: &[u8], expected: String) {
 
 // Jobs of the repository.
 
-/// The cases of document 01 that a job can show, each by the beginning of its names. P9 is about classes alone.
+/// The cases of FORMAT, "Cases", that a job can show, each by the beginning of its names. P9 is about classes alone.
 const CASES: [&str; 19] = [
-    "p1.", "p2_", "p3_", "p4_", "p5_", "p6_", "p7_", "p8_", "p10_", "p11_", "p12_", "children_63_", "children_64_",
-    "schema_rows_512_", "schema_rows_513_", "start_not_allowed_", "habit_first_definition_", "habit_text_takes_",
+    "p1.",
+    "p2_",
+    "p3_",
+    "p4_",
+    "p5_",
+    "p6_",
+    "p7_",
+    "p8_",
+    "p10_",
+    "p11_",
+    "p12_",
+    "children_63_",
+    "children_64_",
+    "schema_rows_512_",
+    "schema_rows_513_",
+    "start_not_allowed_",
+    "habit_first_definition_",
+    "habit_text_takes_",
     "habit_space_between_",
 ];
 
@@ -72,10 +88,10 @@ fn named_jobs(y: &mut Tally) {
     }
 }
 
-/// Each byte of the job of document 01 changed, left out and doubled, and each beginning of it.
+/// Each byte of the job of case P1 changed, left out and doubled, and each beginning of it.
 fn every_byte(y: &mut Tally) {
     let text = fs::read("tests/jobs/p1.job").unwrap_or_default();
-    y.same("the job of document 01 is there", text.is_empty(), false);
+    y.same("the job of case P1 is there", text.is_empty(), false);
     for k in 0..text.len() {
         let (before, after) = text.split_at(k);
         let (byte, rest) = (after[0], &after[1..]);
@@ -93,8 +109,8 @@ fn every_byte(y: &mut Tally) {
 
 // Random jobs.
 
-/// A file. Of twenty in a row four are valid, six are so or near it, two are large and valid, two are unlike their schema,
-/// and six are spoiled: in their text, or with a fault of a code that comes round.
+/// A file. Of twenty in a row four are valid, six are so or near it, two are large and valid, two are unlike their
+/// schema, and six are spoiled: in their text, or with a fault of a code that comes round.
 fn random_file(r: &Rng, number: usize) -> Vec<u8> {
     let small = |sort: usize| loop {
         if let Some(job) = small_job(r, sort) {
@@ -140,7 +156,8 @@ fn slow_jobs(y: &mut Tally) {
     for slow in slow::slow_jobs() {
         let file = job::write(&slow.job).into_bytes();
         let expected = check(&file);
-        y.same(&format!("{} by construction", slow.name), &expected[..expected.len().min(slow.begins.len())], &slow.begins);
+        let begins = &expected[..expected.len().min(slow.begins.len())];
+        y.same(&format!("{} by construction", slow.name), begins, &slow.begins);
         compare(y, &format!("slow {}", slow.name), &file, expected);
     }
 }

@@ -106,12 +106,10 @@ impl<'a> Goal<'a> {
     fn by_a_rule(&mut self, pattern: u32, a: u32, m: u32) -> bool {
         match self.tables.row(pattern) {
             [10, p1, p2] => self.holds(p1, a, m) || self.holds(p2, a, m),
-            [11, p1, p2] => unions(a).any(|(a1, a2)| {
-                self.cuts(m).any(|(m1, m2)| self.both((p1, a1, m1), (p2, a2, m2)))
-            }),
-            [12, p1, p2] => unions(a).any(|(a1, a2)| {
-                subsets(m).any(|m1| self.both((p1, a1, m1), (p2, a2, m & !m1)))
-            }),
+            [11, p1, p2] => {
+                unions(a).any(|(a1, a2)| self.cuts(m).any(|(m1, m2)| self.both((p1, a1, m1), (p2, a2, m2))))
+            }
+            [12, p1, p2] => unions(a).any(|(a1, a2)| subsets(m).any(|m1| self.both((p1, a1, m1), (p2, a2, m & !m1)))),
             [9, p, _] => self.holds(p, a, m) || self.one_and_more(pattern, p, a, m),
             [7, class, p] => m == 0 && self.attribute(class, p, a),
             row => a == 0 && self.without_attributes(pattern, row, m),
@@ -133,7 +131,8 @@ impl<'a> Goal<'a> {
     }
     /// Rule (list): the tokens as a sequence of strings, with no attributes.
     fn list(&self, string: u32, pattern: u32) -> bool {
-        let tokens: Vec<Member> = self.tables.tokens[string as usize].iter().map(|&token| Member::Text(token)).collect();
+        let tokens = &self.tables.tokens[string as usize];
+        let tokens: Vec<Member> = tokens.iter().map(|&token| Member::Text(token)).collect();
         let m = all(tokens.len());
         Goal::new(self.tables, self.proved, &[], tokens).holds(pattern, 0, m)
     }

@@ -3,6 +3,9 @@
 #[allow(dead_code)]
 #[path = "brute.rs"]
 pub mod brute;
+#[allow(dead_code)]
+#[path = "calls.rs"]
+pub mod calls;
 #[path = "instance.rs"]
 pub mod instance;
 #[allow(dead_code)]
@@ -18,18 +21,14 @@ pub mod schema;
 use job::Job;
 use matching::{by_derivatives, Matches, Whitespace};
 #[allow(unused_imports)]
-pub use schema::{Input, NONE};
+pub use schema::{Answer, Input, NONE};
 
 /// The words that `check` lends to the match list.
 const ROOM: usize = 16_384;
 
 /// The first fault of codes 1 to 10, as code and place.
-pub fn fault(job: &Job) -> Option<(u64, u64)> {
-    let input = Input { bytes: job.bytes(), ends: job.ends(), schema: job.schema.clone() };
-    match schema::verdict(&input) {
-        0 => instance::fault(job.strings.len(), &job.instance).map(|(code, row)| (code, row as u64)),
-        refused => Some((refused >> 32, refused & 0xFFFF_FFFF)),
-    }
+pub fn fault(job: &Job) -> Option<Answer> {
+    calls::fault(&calls::input(job))
 }
 
 pub fn answer(matches: &Matches) -> String {

@@ -1,4 +1,4 @@
-//! Codes 9 and 10 of document 01 in one pass over the rows, with the open elements on a stack.
+//! Codes 9 and 10 of FORMAT, "Codes and places", in one pass over the rows, with the open elements on a stack.
 
 pub type Node = [u32; 5];
 

@@ -1,4 +1,4 @@
-//! The job file of document 01 by lines of text, independent of the proved reader and writer.
+//! The job file of FORMAT, "Job file", by lines of text, independent of the proved reader and writer.
 
 #[derive(Clone, Debug, Default, PartialEq, Eq)]
 pub struct Job {
@@ -16,12 +16,22 @@ impl Job {
 
     pub fn ends(&self) -> Vec<u32> {
         let mut end = 0;
-        self.strings.iter().map(|s| { end += s.len() as u32; end }).collect()
+        self.strings
+            .iter()
+            .map(|s| {
+                end += s.len() as u32;
+                end
+            })
+            .collect()
     }
 }
 
 fn word(w: u32) -> String {
-    if w == u32::MAX { "-".into() } else { w.to_string() }
+    if w == u32::MAX {
+        "-".into()
+    } else {
+        w.to_string()
+    }
 }
 
 fn rows(key: &str, width: usize, table: &[u32]) -> String {
@@ -48,7 +58,11 @@ fn number(text: &str) -> Option<u32> {
 }
 
 fn value(text: &str) -> Option<u32> {
-    if text == "-" { Some(u32::MAX) } else { number(text) }
+    if text == "-" {
+        Some(u32::MAX)
+    } else {
+        number(text)
+    }
 }
 
 fn hex(text: &str) -> Option<Vec<u8>> {

@@ -9,9 +9,8 @@ use super::reference::{fault, NONE};
 use std::cell::{Cell, RefCell};
 
 /// What strings are made from: whitespace and words that only `token` finds equal.
-const TEXTS: [&str; 15] = [
-    " ", "a", " a", "a b", "  a \t b ", "\t\n", "no", " no ", "x", "\r", "a\rb", "\n", "b", "a a\n", "x\tno x",
-];
+const TEXTS: [&str; 15] =
+    [" ", "a", " a", "a b", "  a \t b ", "\t\n", "no", " no ", "x", "\r", "a\rb", "\n", "b", "a a\n", "x\tno x"];
 /// What stands between two tokens, and what may stand around them.
 const BETWEEN: [&str; 6] = [" ", " ", "\n", "\t", "  ", " \n\t "];
 const AROUND: [&str; 6] = ["", "", "", " ", "\n", "\t  "];
@@ -324,7 +323,8 @@ fn lists(r: &Rng) -> Job {
         _ => format!("| empty {}", list()),
     };
     loop {
-        let definitions = format!("element 0:2 {} element 0:2 {} element / 0:2 0:3 {}", content(), content(), content());
+        let (first, second, third) = (content(), content(), content());
+        let definitions = format!("element 0:2 {first} element 0:2 {second} element / 0:2 0:3 {third}");
         let (schema, _) = read(&format!("element 0:1 | empty + | $1 | $2 $3 {definitions} start $0"));
         let mut rows = rows_of(&schema);
         for row in rows.iter_mut().filter(|row| row[0] == 5) {

@@ -81,7 +81,7 @@ pub fn is_white(byte: &u8) -> bool {
 }
 
 /// The tokens of a text, which whitespace separates.
-fn split(text: &[u8]) -> Vec<&[u8]> {
+pub fn split(text: &[u8]) -> Vec<&[u8]> {
     text.split(is_white).filter(|token| !token.is_empty()).collect()
 }
 

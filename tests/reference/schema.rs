@@ -13,64 +13,72 @@ macro_rules! kinds {
 kinds! { EMPTY 1, NOT_ALLOWED 2, TEXT 3, DATA 4, VALUE 5, LIST 6, ATTRIBUTE 7, REF 8, ONE_OR_MORE 9 }
 kinds! { CHOICE 10, GROUP 11, INTERLEAVE 12, ANY_NAME 16, NS_NAME 17, NAME 18, CLASS_CHOICE 19, ELEMENT 20, START 21 }
 
-/// A table of strings, and the words of a schema.
-#[derive(Clone)]
+/// What a call answers: the code and place of a refusal, or 0 and the answer.
+pub type Answer = (u64, u64);
+
+/// The tables that a call takes, which need keep no rule.
+#[derive(Clone, Default, PartialEq)]
 pub struct Input {
     pub bytes: Vec<u8>,
     pub ends: Vec<u32>,
     pub schema: Vec<u32>,
+    pub instance: Vec<u32>,
 }
 
 impl Debug for Input {
     fn fmt(&self, f: &mut Formatter) -> Written {
-        let rows: Vec<_> = self.schema.chunks(3).collect();
+        let (rows, nodes): (Vec<_>, Vec<_>) = (self.schema.chunks(3).collect(), self.instance.chunks(5).collect());
         let bytes = self.bytes.escape_ascii();
-        write!(f, "rows {rows:?}, ends {:?}, bytes \"{bytes}\"", self.ends)
+        write!(f, "rows {rows:?}, nodes {nodes:?}, ends {:?}, bytes \"{bytes}\"", self.ends)
     }
 }
 
 // The three functions.
 
-/// 0 for a schema that passes, else the code and place of its fault.
-pub fn verdict(input: &Input) -> u64 {
-    check(input).err().unwrap_or(0)
+/// 0 for a schema that passes.
+pub fn verdict(input: &Input) -> Answer {
+    check(input).err().unwrap_or((0, 0))
 }
 
 /// 1 where the name is in the class, else 0.
-pub fn name_in_class(input: &Input, class: u32, namespace: u32, local: u32) -> u64 {
+pub fn name_in_class(input: &Input, class: u32, (namespace, local): (u32, u32)) -> Answer {
     let answer = || {
         let mut schema = check(input)?;
         schema.grid.extend([namespace, local]);
         let names = schema.names(schema.class(class)?);
-        Ok(u64::from(names.contains(&(namespace, local))))
+        Ok((0, u64::from(names.contains(&(namespace, local)))))
     };
     answer().unwrap_or_else(|refused| refused)
 }
 
-/// 1 where the classes have a name in common, else 0. The least such name goes to `name`.
-pub fn least_common_name(input: &Input, first: u32, second: u32, name: &mut [u32]) -> u64 {
+/// 1 where the classes have a name in common, else 0; and the output for it, of so many words.
+pub fn least_common_name(input: &Input, (first, second): (u32, u32), room: usize) -> (Answer, Vec<u32>) {
     let common = || {
         let schema = check(input)?;
         let (first, second) = (schema.class(first)?, schema.class(second)?);
         Ok(&schema.names(first) & &schema.names(second))
     };
-    name.fill(0);
-    let common = match common() {
-        Err(refused) => return refused,
-        Ok(common) => common,
+    let mut name = vec![0; room];
+    let answer = match common() {
+        Err(refused) => refused,
+        Ok(common) => match common.first() {
+            None => (0, 0),
+            Some(_) if room < 2 => (12, 0),
+            Some(&(namespace, local)) => {
+                name[..2].copy_from_slice(&[namespace, local]);
+                (0, 1)
+            }
+        },
     };
-    let least = common.first().map_or([0, 0], |&(n, l)| [n, l]);
-    let words = name.iter_mut().zip(least);
-    words.for_each(|(word, number)| *word = number);
-    u64::from(!common.is_empty())
+    (answer, name)
 }
 
-fn fault(code: u64, place: usize) -> u64 {
-    code * 4_294_967_296 + place as u64
+fn fault(code: u64, place: usize) -> Answer {
+    (code, place as u64)
 }
 
 /// The first string at fault.
-fn string_fault(bytes: &[u8], ends: &[u32]) -> Option<usize> {
+pub fn string_fault(bytes: &[u8], ends: &[u32]) -> Option<usize> {
     let n = ends.len();
     if n == 0 || n > 512 || bytes.len() > 16_384 {
         return Some(0);
@@ -88,7 +96,7 @@ fn string_fault(bytes: &[u8], ends: &[u32]) -> Option<usize> {
 
 /// Codes 1 to 8.
 #[rustfmt::skip]
-fn check(input: &Input) -> Result<Schema, u64> {
+fn check(input: &Input) -> Result<Schema, Answer> {
     if let Some(place) = string_fault(&input.bytes, &input.ends) {
         return Err(fault(1, place));
     }
@@ -155,7 +163,7 @@ impl Schema {
         self.rows[row][0]
     }
     /// A row asked for, or code 11.
-    fn class(&self, row: u32) -> Result<usize, u64> {
+    fn class(&self, row: u32) -> Result<usize, Answer> {
         match self.rows.get(row as usize) {
             Some([16..=19, ..]) => Ok(row as usize),
             _ => Err(fault(11, row as usize)),
@@ -262,16 +270,17 @@ impl Schema {
     }
 
     /// A pattern and all that is reached from it through choice, group, interleave and oneOrMore.
-    fn reached(&self, row: u32) -> BTreeSet<usize> {
-        let [kind, a, b] = self.rows[row as usize];
-        let mut set = BTreeSet::from([row as usize]);
-        if matches!(kind, CHOICE | GROUP | INTERLEAVE | ONE_OR_MORE) {
-            set.extend(self.reached(a));
+    fn reached(&self, row: u32) -> Vec<usize> {
+        let (mut reached, mut open) = (vec![], vec![row]);
+        while let Some(row) = open.pop() {
+            reached.push(row as usize);
+            match self.rows[row as usize] {
+                [CHOICE | GROUP | INTERLEAVE, a, b] => open.extend([a, b]),
+                [ONE_OR_MORE, a, _] => open.push(a),
+                _ => {}
+            }
         }
-        if matches!(kind, CHOICE | GROUP | INTERLEAVE) {
-            set.extend(self.reached(b));
-        }
-        set
+        reached
     }
     /// The content type of a pattern, the largest of all reached: empty 0, complex 1, simple 2.
     fn content(&self, row: u32) -> u32 {

@@ -9,7 +9,7 @@ pub type Row = [u32; 3];
 #[rustfmt::skip]
 pub fn over(n: u16, schema: Vec<u32>) -> Input {
     let bytes = (1..n).flat_map(u16::to_be_bytes).collect();
-    Input { bytes, ends: (0..n as u32).map(|k| 2 * k).collect(), schema }
+    Input { bytes, ends: (0..n as u32).map(|k| 2 * k).collect(), schema, instance: vec![] }
 }
 
 // The notation: a row and then its children, with `!` for a mark. `none` is notAllowed, `data-` has

@@ -1,6 +1,6 @@
 //! Counts comparisons and prints the first that fail.
 
-use std::fmt::Debug;
+use std::fmt::{Debug, Display};
 
 /// So many failures are printed, and so many characters of each value on either side of the first difference.
 const PRINTED: (u64, usize) = (20, 300);
@@ -13,7 +13,7 @@ pub struct Tally {
 
 impl Tally {
     /// Whether the two are equal.
-    pub fn same<T: PartialEq + Debug>(&mut self, what: &str, got: T, expected: T) -> bool {
+    pub fn same<T: PartialEq + Debug>(&mut self, what: impl Display, got: T, expected: T) -> bool {
         if got == expected {
             self.passed += 1;
             return true;
@@ -22,9 +22,10 @@ impl Tally {
         if self.failed <= PRINTED.0 {
             let [expected, got] = [expected, got].map(|value| format!("{value:?}").chars().collect::<Vec<char>>());
             let equal = expected.iter().zip(&got).take_while(|(a, b)| a == b).count();
-            let near = |all: &[char]| all[equal.saturating_sub(PRINTED.1)..all.len().min(equal + PRINTED.1)].iter().collect();
-            let [expected, got]: [String; 2] = [near(&expected), near(&got)];
-            println!("FAILED {what}\n    expected {expected}\n    got      {got}");
+            let (from, to) = (equal.saturating_sub(PRINTED.1), equal + PRINTED.1);
+            let near = |all: &[char]| all[from..all.len().min(to)].iter().collect::<String>();
+            println!("FAILED {:.3000}", what.to_string());
+            println!("    expected {}\n    got      {}", near(&expected), near(&got));
         }
         false
     }

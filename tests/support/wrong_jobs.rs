@@ -73,7 +73,7 @@ fn text(r: &Rng, text: &mut Vec<u8>) {
 const TRIES: usize = 2_000;
 
 /// The job with some fault of a code from 1 to 10, if tries bring it about.
-fn with_code(r: &Rng, job: &Job, code: u64) -> Option<Job> {
+pub fn with_code(r: &Rng, job: &Job, code: u64) -> Option<Job> {
     (0..TRIES).find_map(|_| {
         let mut job = job.clone();
         match code {
