@@ -14,7 +14,7 @@ use Rattle.relaxng.specs.Promises.{SchemaRefusal}
 use Rattle.matching_rules.specs.Job.{Pair, Valid}
 use Rattle.matching_rules.specs.Listed.{Rising, Lists}
 
--- what document 01 says of a case: the match list with valid or not; the least name common to the classes at two rows;
+-- what is said of a case: the match list with valid or not; the least name common to the classes at two rows;
 -- a refusal of the schema by code and place
 pub data Expected : Type 0 where
   matches : (pairs : List (ℕ × ℕ)) (valid : Bool) → Expected

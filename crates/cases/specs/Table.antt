@@ -1,4 +1,4 @@
--- Cases P1 to P12 of document 01, either side: the tables of each job, and what document 01 says of it.
+-- Cases P1 to P12 of FORMAT, "Cases", either side: the tables of each job, and what is said of it.
 use Prim.Native.Nat.{ℕ}
 use mathlib.Core.Bool.{true, false}
 use mathlib.Core.List.{List, [], _∷_}
@@ -21,13 +21,14 @@ articles = schemaWords (
     ∷ (11, 3, 4) ∷ (20, 0, 5) ∷ (18, 0, 3) ∷ (3, 0, 0) ∷ (20, 7, 8)
     ∷ (18, 0, 3) ∷ (1, 0, 0) ∷ (20, 10, 11) ∷ (8, 6, 0) ∷ (21, 13, 0) ∷ [])
 
--- P1: the job of document 01
+-- P1: the job tests/jobs/p1.job
 abbrev pub p1 : Row
 p1 = record {
   bytes = 0x61 ∷ 0x72 ∷ 0x74 ∷ 0x69 ∷ 0x64 ∷ 0x74 ∷ 0x69 ∷ 0x78 ∷ 0x31 ∷ 0x20 ∷ [];
   ends = 0 ∷ 3 ∷ 5 ∷ 7 ∷ 9 ∷ 10 ∷ [];
   schema = articles;
-  instance = nodeWords ((1, noRow, 0, 1, 0) ∷ (2, 0, 0, 2, 4) ∷ (3, 0, 5, 0, 0) ∷ (1, 0, 0, 3, 0) ∷ (3, 3, 5, 0, 0) ∷ []);
+  instance =
+      nodeWords ((1, noRow, 0, 1, 0) ∷ (2, 0, 0, 2, 4) ∷ (3, 0, 5, 0, 0) ∷ (1, 0, 0, 3, 0) ∷ (3, 3, 5, 0, 0) ∷ []);
   expected = matches ((0, 6) ∷ (3, 9) ∷ (3, 12) ∷ []) true;
 }
 
@@ -37,7 +38,8 @@ p2 = record {
   bytes = 0x61 ∷ 0x72 ∷ 0x74 ∷ 0x69 ∷ 0x64 ∷ 0x74 ∷ 0x69 ∷ 0x78 ∷ 0x31 ∷ 0x20 ∷ [];
   ends = 0 ∷ 3 ∷ 5 ∷ 7 ∷ 9 ∷ 10 ∷ [];
   schema = articles;
-  instance = nodeWords ((1, noRow, 0, 1, 0) ∷ (2, 0, 0, 2, 4) ∷ (3, 0, 5, 0, 0) ∷ (1, 0, 0, 3, 0) ∷ (3, 3, 4, 0, 0) ∷ []);
+  instance =
+      nodeWords ((1, noRow, 0, 1, 0) ∷ (2, 0, 0, 2, 4) ∷ (3, 0, 5, 0, 0) ∷ (1, 0, 0, 3, 0) ∷ (3, 3, 4, 0, 0) ∷ []);
   expected = matches ((0, 6) ∷ (3, 9) ∷ []) true;
 }
 
@@ -274,4 +276,6 @@ p12 = record {
 }
 
 abbrev pub table : List Row
-table = p1 ∷ p2 ∷ p3-token ∷ p3-string ∷ p4-empty ∷ p4-x ∷ p5-token ∷ p5-string ∷ p6-ab ∷ p6-ba ∷ p6-aab ∷ p7-none ∷ p7-one ∷ p7-two ∷ p8-no ∷ p8-yes ∷ p9-except ∷ p9-any ∷ p10 ∷ p11 ∷ p12 ∷ []
+table =
+    p1 ∷ p2 ∷ p3-token ∷ p3-string ∷ p4-empty ∷ p4-x ∷ p5-token ∷ p5-string ∷ p6-ab ∷ p6-ba ∷ p6-aab ∷ p7-none ∷ p7-one
+    ∷ p7-two ∷ p8-no ∷ p8-yes ∷ p9-except ∷ p9-any ∷ p10 ∷ p11 ∷ p12 ∷ []

@@ -11,14 +11,15 @@ enum Step {
     End,
 }
 
-// Whether a byte is a whitespace character.
+// Yes exactly for the whitespace characters #x20, #x9 and #xA.
 pub fn is_space(c: u8) -> bool
     ensures { λ r. ⌜ r ≡ space c ⌝ }
 {
     c == 0x20 || c == 0x9 || c == 0xA
 }
 
-// The first position from a given one on where no whitespace character stands.
+// The first position from a given one on where no whitespace character stands, or the end of the text; the given one
+// where it is past the end.
 pub fn skip_space(s: &[u8], from: usize) -> usize
     ensures { λ r. ⌜ Skips (now (s .entry)) from r ⌝ }
 {
@@ -32,7 +33,8 @@ pub fn skip_space(s: &[u8], from: usize) -> usize
     i
 }
 
-// The first position from a given one on where a whitespace character stands: where a token that begins there ends.
+// The first position from a given one on where a whitespace character stands, or the end of the text: where a token
+// that begins there ends. The given one where it is past the end.
 pub fn token_end(s: &[u8], from: usize) -> usize
     ensures { λ r. ⌜ TokenTo (now (s .entry)) from r ⌝ }
 {
@@ -46,14 +48,14 @@ pub fn token_end(s: &[u8], from: usize) -> usize
     to
 }
 
-// Whether a text is whitespace throughout; the empty text is.
+// Yes exactly when every character of a text is whitespace; the empty text is whitespace too.
 pub fn is_whitespace(s: &[u8]) -> bool
     ensures { λ r. ⌜ r ≡ whitespace (now (s .entry)) ⌝ }
 {
     skip_space(s, 0) == s.len()
 }
 
-// (string equal): whether two texts are equal as values of the datatype `string`.
+// (string equal): yes exactly when two texts are equal.
 pub fn same_string(a: &[u8], b: &[u8]) -> bool
     ensures { λ r. ⌜ Decides (stringEqual (now (a .entry)) (now (b .entry))) r ⌝ }
 {
@@ -89,8 +91,7 @@ fn ends(step: Step) -> bool
     }
 }
 
-// (token equal): whether two texts are equal as values of the datatype `token`. Their normalized forms are compared as
-// they are read.
+// (token equal): yes exactly when the normalized forms of two texts are equal, which are compared as they are read.
 pub fn same_token(a: &[u8], b: &[u8]) -> bool
     ensures { λ r. ⌜ Decides (tokenEqual (now (a .entry)) (now (b .entry))) r ⌝ }
 {

@@ -1,4 +1,4 @@
--- The rule of instance rows, width apart, from document 01, "Instance rows", and code 9 of its table of codes.
+-- The rule of instance rows, width apart, from FORMAT, "Instance rows", and code 9 of FORMAT, "Codes and places".
 use Prim.Native.Nat.{ℕ, zero, suc, _<_, _%_}
 use mathlib.Core.Path.{_≡_}
 use mathlib.Core.Logic.{_≢_}
@@ -6,7 +6,8 @@ use mathlib.Core.Bool.{Bool, true, false, cond, _&&_, _||_}
 use mathlib.Core.List.{List}
 use lib.ListN.{length}
 use lib.Dec.{ltb, eqb}
-use Rattle.instance.specs.Nodes.{element, attribute, text, noParent, nodesOf, kindOf, parentOf, aOf, bOf, cOf, isChild, isAttribute, SameName}
+use Rattle.instance.specs.Nodes.{element, attribute, text, noParent, nodesOf, kindOf}
+use Rattle.instance.specs.Nodes.{parentOf, aOf, bOf, cOf, isChild, isAttribute, SameName}
 
 abbrev pub maxNodes : ℕ
 maxNodes = 1024
@@ -44,8 +45,10 @@ pub data WrongNode (strings : ℕ) (t : List ℕ) (r : ℕ) : Type 0 where
   bad-fields : fieldsRight strings (kindOf t r) (aOf t r) (bOf t r) (cOf t r) ≡ false → WrongNode strings t r
   bad-parent : ¬ ParentRight t r → WrongNode strings t r
   late-attribute : (q : ℕ) → q < r → kindOf t r ≡ attribute → isChild t (parentOf t r) q ≡ true → WrongNode strings t r
-  same-attribute : (q : ℕ) → q < r → kindOf t r ≡ attribute → isAttribute t (parentOf t r) q ≡ true → SameName t q r → WrongNode strings t r
-  text-after-text : (q : ℕ) → q < r → kindOf t r ≡ text → kindOf t q ≡ text → parentOf t q ≡ parentOf t r → ((x : ℕ) → q < x → x < r → isChild t (parentOf t r) x ≡ false) → WrongNode strings t r
+  same-attribute : (q : ℕ) → q < r → kindOf t r ≡ attribute → isAttribute t (parentOf t r) q ≡ true → SameName t q r
+      → WrongNode strings t r
+  text-after-text : (q : ℕ) → q < r → kindOf t r ≡ text → kindOf t q ≡ text → parentOf t q ≡ parentOf t r
+      → ((x : ℕ) → q < x → x < r → isChild t (parentOf t r) x ≡ false) → WrongNode strings t r
 
 -- code 9 at row r
 pub data NodeFault (strings : ℕ) (t : List ℕ) (r : ℕ) : Type 0 where

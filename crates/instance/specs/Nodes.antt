@@ -1,4 +1,4 @@
--- An instance is a list of words, five a row, in document order: kind, parent, a, b, c (document 01, "Instance rows").
+-- An instance is a list of words, five a row, in document order: kind, parent, a, b, c (FORMAT, "Instance rows").
 use Prim.Native.Nat.{ℕ, _+_, _*_, _/_, _<_}
 use mathlib.Core.Path.{_≡_}
 use mathlib.Core.Bool.{Bool, true, _&&_, _||_}
@@ -16,7 +16,7 @@ attribute = 2
 abbrev pub text : ℕ
 text = 3
 
--- document 01's `-`: no parent
+-- `-` of FORMAT, "Instance rows": no parent
 abbrev pub noParent : ℕ
 noParent = 4294967295
 

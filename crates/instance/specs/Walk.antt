@@ -5,7 +5,8 @@ use mathlib.Core.Bool.{Bool, true, false}
 use mathlib.Core.List.{List}
 use lib.ListN.{length, getD}
 use Rattle.tables.specs.Answers.{Decides}
-use Rattle.instance.specs.Nodes.{element, noParent, nodesOf, kindOf, parentOf, aOf, bOf, cOf, isChild, isAttribute, SameName}
+use Rattle.instance.specs.Nodes.{element, noParent, nodesOf, kindOf, parentOf}
+use Rattle.instance.specs.Nodes.{aOf, bOf, cOf, isChild, isAttribute, SameName}
 use Rattle.instance.specs.NodeRule.{maxNodes, fieldsRight, ParentRight, WrongNode}
 
 -- row 0 is the root, and the parent of every other row comes before it
@@ -18,7 +19,8 @@ pub record Rooted (t : List ℕ) (r : ℕ) : Type 0 where
 -- k is the kind of the last child of e before row r, and 0 where e has none
 pub data LastChild (t : List ℕ) (e r k : ℕ) : Type 0 where
   no-child : k ≡ 0 → ((q : ℕ) → q < r → isChild t e q ≡ false) → LastChild t e r k
-  child-at : (q : ℕ) → q < r → isChild t e q ≡ true → kindOf t q ≡ k → ((x : ℕ) → q < x → x < r → isChild t e x ≡ false) → LastChild t e r k
+  child-at : (q : ℕ) → q < r → isChild t e q ≡ true → kindOf t q ≡ k → ((x : ℕ) → q < x → x < r → isChild t e x ≡ false)
+      → LastChild t e r k
 
 pub record LastChildren (t last : List ℕ) (r : ℕ) : Type 0 where
   pub size : length last ≡ maxNodes
@@ -43,4 +45,6 @@ BadNode strings t r = (r < nodesOf t) × WrongNode strings t r
 
 -- the answer for row r, whose fields are right
 abbrev pub TellsWrong : List ℕ → ℕ → Bool → Type 0
-TellsWrong t r wrong = (strings : ℕ) → fieldsRight strings (kindOf t r) (aOf t r) (bOf t r) (cOf t r) ≡ true → Decides (WrongNode strings t r) wrong
+TellsWrong t r wrong =
+    (strings : ℕ) → fieldsRight strings (kindOf t r) (aOf t r) (bOf t r) (cOf t r) ≡ true
+    → Decides (WrongNode strings t r) wrong

@@ -1,4 +1,4 @@
--- Code 10: an element that is wider than document 01 allows.
+-- Code 10: an element that is wider than FORMAT, "Instance rows", allows.
 use Prim.Native.Nat.{ℕ, zero, suc, _+_, _<_}
 use mathlib.Core.Path.{_≡_}
 use mathlib.Core.Bool.{Bool, cond}
@@ -15,5 +15,6 @@ howMany test (suc n) = howMany test n + cond (test n) 1 0
 
 -- code 10 at row e
 pub data WidthFault (t : List ℕ) (e : ℕ) : Type 0 where
-  many-attributes : e < nodesOf t → kindOf t e ≡ element → maxWidth < howMany (isAttribute t e) (nodesOf t) → WidthFault t e
+  many-attributes : e < nodesOf t → kindOf t e ≡ element → maxWidth < howMany (isAttribute t e) (nodesOf t)
+      → WidthFault t e
   many-children : e < nodesOf t → kindOf t e ≡ element → maxWidth < howMany (isChild t e) (nodesOf t) → WidthFault t e

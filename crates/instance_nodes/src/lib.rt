@@ -13,7 +13,8 @@ ghost use lib.Dec.{eqb, ltb};
 ghost use Rattle.tables.specs.Answers.{Decides, Finds};
 ghost use Rattle.tables.specs.Outputs.{zeros};
 ghost use Rattle.instance.specs.Nodes.{element, nodesOf, isChild, isAttribute};
-ghost use Rattle.instance.specs.NodeRule.{maxNodes, fieldsRight, nearest, ParentRight, NodeSizeFault, WrongNode, NodeFault};
+ghost use Rattle.instance.specs.NodeRule.{maxNodes, fieldsRight, nearest, ParentRight};
+ghost use Rattle.instance.specs.NodeRule.{NodeSizeFault, WrongNode, NodeFault};
 ghost use Rattle.instance.specs.Walk.{Rooted, LastChildren, Twin, RepeatsName, BadNode, Placed, TellsWrong};
 ghost use Rattle.instance.specs.Width.{maxWidth, WidthFault};
 ghost use Rattle.instance_nodes.specs.Counts.{RowsCounted};
@@ -226,7 +227,8 @@ fn first_wrong_node(strings: usize, instance: &[u32]) -> Checked
     scan_nodes(strings, instance, &mut last)
 }
 
-// Code 9: the place of the first row that breaks the rule of instance rows, in a table beside so many strings.
+// Code 9: `Fine` exactly when the rows keep their rule beside so many strings, and otherwise the first faulty row, of
+// two at odds the later.
 pub fn check_nodes(strings: usize, instance: &[u32]) -> Checked
     ensures { λ r. ⌜ Finds (NodeFault strings (now (instance .entry))) r ⌝ }
 {
@@ -286,7 +288,8 @@ fn first_wide(instance: &[u32], attributes: &[u32], children: &[u32]) -> Checked
     Checked::Fine
 }
 
-// Code 10: the first element with too many attributes or children, of a table that has no more rows than it may.
+// Code 10: the smallest element with more than 63 attributes or 63 children; `Fine` exactly when there is none. The
+// caller shows that there are at most 1,024 rows.
 pub fn check_width(instance: &[u32]) -> Checked
     requires { ⌜ nodesOf (now instance) ≤ maxNodes ⌝ }
     ensures { λ r. ⌜ Finds (WidthFault (now (instance .entry))) r ⌝ }

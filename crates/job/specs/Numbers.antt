@@ -5,7 +5,7 @@ use mathlib.Core.List.{List, [], _∷_, _++_}
 use mathlib.Core.Option.{Option, none, some}
 use lib.Dec.{ltb, leb, eqb}
 
--- document 01's `-`, and the largest number that is written in digits
+-- `-` of FORMAT, "Job file", and the largest number that is written in digits
 abbrev pub largestWord : ℕ
 largestWord = 4294967295
 

@@ -1,5 +1,4 @@
--- What a job file reads as: the four tables, or its first wrong line (document 01, "The job file", and code 13 of its
--- table of codes).
+-- What a job file reads as: the four tables, or its first wrong line (FORMAT, "Job file").
 use Prim.Native.Nat.{ℕ, zero, suc, _+_}
 use mathlib.Core.Bool.{cond}
 use mathlib.Core.List.{List, [], _∷_, _++_}
@@ -38,7 +37,8 @@ line holds n [] next = wrong n
 line holds n (l ∷ lines) next = lineBy (holds l) n lines next
 
 -- so many lines, each added to the tables
-unfoldable pub lines : (Tables → List ℕ → Option Tables) → ℕ → Tables → ℕ → List (List ℕ) → (Tables → ℕ → List (List ℕ) → Reading) → Reading
+unfoldable pub lines : (Tables → List ℕ → Option Tables) → ℕ → Tables → ℕ → List (List ℕ)
+    → (Tables → ℕ → List (List ℕ) → Reading) → Reading
 lines add zero t n rest next = next t n rest
 lines add (suc count) t n rest next = line (add t) n rest (λ t n rest. lines add count t n rest next)
 
@@ -61,7 +61,9 @@ count key limit l = andThen (after key l) (λ text. andThen (numberOf text) (atM
 abbrev pub withString : Tables → List ℕ → Option Tables
 withString t text =
     cond (leb (length (t .strings .bytes) + length text) maxBytes)
-    (some (tablesOf (stringTable (t .strings .bytes ++ text) (t .strings .ends ++ (length (t .strings .bytes) + length text) ∷ [])) (t .schema) (t .instance)))
+    (some (tablesOf
+    (stringTable (t .strings .bytes ++ text) (t .strings .ends ++ (length (t .strings .bytes) + length text) ∷ []))
+    (t .schema) (t .instance)))
     none
 
 abbrev pub addString : Tables → List ℕ → Option Tables

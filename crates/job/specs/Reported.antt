@@ -1,4 +1,4 @@
--- What the program `check` prints (document 01, "The job file"): the verdict, the number of pairs and the pairs, or the
+-- What the program `check` prints (FORMAT, "Output"): the verdict, the number of pairs and the pairs, or the
 -- one line of a refusal.
 use Prim.Native.Nat.{ℕ, _/_}
 use mathlib.Core.Bool.{Bool, true, false}
@@ -15,7 +15,9 @@ validLine false = ascii "valid=no"
 
 -- the words of the match list, two for each pair
 abbrev pub matchLines : Bool → List ℕ → List (List ℕ)
-matchLines valid words = validLine valid ∷ (ascii "pairs=" ++ decimal (length words / 2)) ∷ rowLines (ascii "pair=") 2 (length words / 2) words
+matchLines valid words =
+    validLine valid ∷ (ascii "pairs=" ++ decimal (length words / 2))
+    ∷ rowLines (ascii "pair=") 2 (length words / 2) words
 
 abbrev pub matchText : Bool → List ℕ → List ℕ
 matchText valid words = textOfLines (matchLines valid words)

@@ -1,4 +1,4 @@
--- What a job file holds: the text of a job's four tables (document 01, "The job file").
+-- What a job file holds: the text of a job's four tables (FORMAT, "Job file").
 use Prim.Native.Nat.{ℕ, zero, suc}
 use mathlib.Core.List.{List, [], _∷_, _++_}
 use lib.ListN.{length, take, drop}

@@ -1,4 +1,4 @@
-// The job file of document 01: what is written and what is read, as definitions in specs/, and the round trip in
+// The job file of FORMAT, "Job file": what is written and what is read, as definitions in specs/, and the round trip in
 // proofs/. There is no function here.
 
 // The longest file.

@@ -18,7 +18,9 @@ use Rattle.job_lines.specs.declared.Found.the-variants.{At, Nothing}
 
 -- the string of a line, after so many bytes of other strings
 abbrev pub stringAfter : ℕ → List ℕ → Option (List ℕ)
-stringAfter used l = andThen (after (ascii "s=") l) (λ digits. andThen (hexBytes digits) (λ text. cond (leb (used + length text) maxBytes) (some text) none))
+stringAfter used l =
+    andThen (after (ascii "s=") l)
+    (λ digits. andThen (hexBytes digits) (λ text. cond (leb (used + length text) maxBytes) (some text) none))
 
 -- the line that starts at a position ends with the LF at e
 pub record LineTo (file : List ℕ) (at e : ℕ) : Type 0 where

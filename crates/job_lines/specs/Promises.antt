@@ -18,7 +18,8 @@ pub record Room : Type 0 where
   pub instance : ℕ
 
 abbrev pub roomOf : List ℕ → List ℕ → List ℕ → List ℕ → Room
-roomOf bytes ends schema instance = record { bytes = length bytes; ends = length ends; schema = length schema; instance = length instance }
+roomOf bytes ends schema instance =
+    record { bytes = length bytes; ends = length ends; schema = length schema; instance = length instance }
 
 -- each output holds its table, as far as it fits, and then zeros, to its end
 pub record OutputsHold (t : Tables) (room : Room) (bytes ends schema instance : List ℕ) : Type 0 where
@@ -29,7 +30,8 @@ pub record OutputsHold (t : Tables) (room : Room) (bytes ends schema instance : 
 
 -- the lengths of the four tables, or the first wrong line
 abbrev pub heldAs : Reading → Held
-heldAs (read t) = held.Tables (length (t .strings .bytes)) (length (t .strings .ends)) (length (t .schema)) (length (t .instance))
+heldAs (read t) =
+    held.Tables (length (t .strings .bytes)) (length (t .strings .ends)) (length (t .schema)) (length (t .instance))
 heldAs (wrong line) = held.Wrong line
 
 -- the tables that are laid: none where a line is wrong

@@ -12,7 +12,8 @@ use Rattle.schema.specs.RowRule.{maxRows}
 use Rattle.instance.specs.NodeRule.{maxNodes}
 use Rattle.job.specs.Ascii.{ascii}
 use Rattle.job.specs.Lines.{lineFeed, linesOf}
-use Rattle.job.specs.Reading.{noTables, Reading, read, wrong, line, lines, literal, count, addString, addRow, addNode, rowOf, andThen, nothingMore, readJob}
+use Rattle.job.specs.Reading.{noTables, Reading, read, wrong, line, lines, literal, count}
+use Rattle.job.specs.Reading.{addString, addRow, addNode, rowOf, andThen, nothingMore, readJob}
 use Rattle.job_lines.specs.declared.Found.{Found}
 use Rattle.job_lines.specs.declared.Found.the-variants.{At, Nothing}
 use Rattle.job_lines.specs.declared.Counted.{Counted}
@@ -34,7 +35,8 @@ maxWords = 5120
 
 -- ---- one line
 -- the first line holds a, and the rest comes after it
-pub record TakesLine {A : Type 0} (holds : List ℕ → Option A) (ls : List (List ℕ)) (a : A) (rest : List (List ℕ)) : Type 0 where
+pub record TakesLine {A : Type 0} (holds : List ℕ → Option A) (ls : List (List ℕ)) (a : A)
+    (rest : List (List ℕ)) : Type 0 where
   pub on : (n : ℕ) (next : A → ℕ → List (List ℕ) → Reading) → line holds n ls next ≡ next a (suc n) rest
 
 -- the first line is wrong, or missing
@@ -76,7 +78,8 @@ abbrev pub readStrings : ℕ → ℕ → List (List ℕ) → Next → Reading
 readStrings strings n ls next = lines addString strings noTables n ls next
 
 -- strings are read, and stand in their two outputs as far as they fit
-pub record StringsTo (reads : Next → Reading) (file bytes ends bytes′ ends′ : List ℕ) (strings top at n used : ℕ) : Type 0 where
+pub record StringsTo (reads : Next → Reading) (file bytes ends bytes′ ends′ : List ℕ)
+    (strings top at n used : ℕ) : Type 0 where
   pub text : List ℕ
   pub marks : List ℕ
   pub passes : (next : Next) → reads next ≡ next (stringTables text marks) n (linesOf (drop at file))
@@ -89,7 +92,8 @@ pub record StringsTo (reads : Next → Reading) (file bytes ends bytes′ ends�
   pub below : n ≤ top
 
 abbrev pub StringSection : (Next → Reading) → List ℕ → List ℕ → List ℕ → List ℕ → List ℕ → ℕ → ℕ → Section → Type 0
-StringSection reads file bytes ends bytes′ ends′ strings top (section.Read at n used) = StringsTo reads file bytes ends bytes′ ends′ strings top at n used
+StringSection reads file bytes ends bytes′ ends′ strings top (section.Read at n used) =
+    StringsTo reads file bytes ends bytes′ ends′ strings top at n used
 StringSection reads file bytes ends bytes′ ends′ strings top (section.Wrong n) = (next : Next) → reads next ≡ wrong n
 
 -- a line of a table adds its words to it, and grow is what words add to the tables
@@ -106,9 +110,11 @@ abbrev pub readTable : List ℕ → ℕ → ℕ → List (List ℕ) → Add → 
 readTable key limit n ls add t next = line (count key limit) n ls (λ rows n rest. lines add rows t n rest next)
 
 -- rows are read, and their words stand in the output as far as they fit
-pub record RowsTo (key : List ℕ) (width : ℕ) (reads : Add → Tables → Next → Reading) (file out out′ : List ℕ) (top at n used : ℕ) : Type 0 where
+pub record RowsTo (key : List ℕ) (width : ℕ) (reads : Add → Tables → Next → Reading) (file out out′ : List ℕ)
+    (top at n used : ℕ) : Type 0 where
   pub words : List ℕ
-  pub passes : {add : Add} {grow : Tables → List ℕ → Tables} → AddsWords key width add grow → (t : Tables) (next : Next) → reads add t next ≡ next (grow t words) n (linesOf (drop at file))
+  pub passes : {add : Add} {grow : Tables → List ℕ → Tables} → AddsWords key width add grow → (t : Tables) (next : Next)
+      → reads add t next ≡ next (grow t words) n (linesOf (drop at file))
   pub holds : out′ ≡ sets out 0 words
   pub size : used ≡ length words
   pub small : used ≤ maxWords
@@ -116,10 +122,12 @@ pub record RowsTo (key : List ℕ) (width : ℕ) (reads : Add → Tables → Nex
 
 -- a row is wrong, or missing, at line n
 pub record RowsStop (key : List ℕ) (width : ℕ) (reads : Add → Tables → Next → Reading) (n : ℕ) : Type 0 where
-  pub stops : {add : Add} {grow : Tables → List ℕ → Tables} → AddsWords key width add grow → (t : Tables) (next : Next) → reads add t next ≡ wrong n
+  pub stops : {add : Add} {grow : Tables → List ℕ → Tables} → AddsWords key width add grow → (t : Tables) (next : Next)
+      → reads add t next ≡ wrong n
 
 abbrev pub RowSection : List ℕ → ℕ → (Add → Tables → Next → Reading) → List ℕ → List ℕ → List ℕ → ℕ → Section → Type 0
-RowSection key width reads file out out′ top (section.Read at n used) = RowsTo key width reads file out out′ top at n used
+RowSection key width reads file out out′ top (section.Read at n used) =
+    RowsTo key width reads file out out′ top at n used
 RowSection key width reads file out out′ top (section.Wrong n) = RowsStop key width reads n
 
 -- ---- the last line
@@ -143,7 +151,8 @@ abbrev pub maxFront : ℕ
 maxFront = 515
 
 abbrev pub FrontRead : List ℕ → List ℕ → List ℕ → List ℕ → List ℕ → Front → Type 0
-FrontRead file bytes ends bytes′ ends′ (front.Read at n used strings) = StringsTo (readFront (linesOf file)) file bytes ends bytes′ ends′ strings maxFront at n used
+FrontRead file bytes ends bytes′ ends′ (front.Read at n used strings) =
+    StringsTo (readFront (linesOf file)) file bytes ends bytes′ ends′ strings maxFront at n used
 FrontRead file bytes ends bytes′ ends′ (front.Wrong n) = (next : Next) → readFront (linesOf file) next ≡ wrong n
 
 -- the two tables of rows and the last line
@@ -158,7 +167,8 @@ abbrev pub withRows : Tables → List ℕ → List ℕ → Tables
 withRows t schema instance = tablesOf (t .strings) (t .schema ++ schema) (t .instance ++ instance)
 
 -- both tables are read, and stand in their outputs as far as they fit
-pub record BackTo (file : List ℕ) (n : ℕ) (ls : List (List ℕ)) (schema instance schema′ instance′ : List ℕ) (r i : ℕ) : Type 0 where
+pub record BackTo (file : List ℕ) (n : ℕ) (ls : List (List ℕ)) (schema instance schema′ instance′ : List ℕ)
+    (r i : ℕ) : Type 0 where
   pub row-words : List ℕ
   pub node-words : List ℕ
   pub reads : (t : Tables) → readBack file n ls t ≡ read (withRows t row-words node-words)
@@ -168,7 +178,8 @@ pub record BackTo (file : List ℕ) (n : ℕ) (ls : List (List ℕ)) (schema ins
   pub instance-size : i ≡ length node-words
 
 abbrev pub BackRead : List ℕ → ℕ → List (List ℕ) → List ℕ → List ℕ → List ℕ → List ℕ → Back → Type 0
-BackRead file n ls schema instance schema′ instance′ (back.Read r i) = BackTo file n ls schema instance schema′ instance′ r i
+BackRead file n ls schema instance schema′ instance′ (back.Read r i) =
+    BackTo file n ls schema instance schema′ instance′ r i
 BackRead file n ls schema instance schema′ instance′ (back.Wrong m) = (t : Tables) → readBack file n ls t ≡ wrong m
 
 -- the line that a table stops at: the one after it, or its first wrong one
@@ -179,7 +190,8 @@ lineOf (section.Wrong n) = n
 -- ---- all lines
 -- the lines are read, each table stands at the front of its output as far as it fits, and b, s, r and i are the lengths
 -- of the tables
-pub record LinesTo (file bytes ends schema instance bytes′ ends′ schema′ instance′ : List ℕ) (b s r i : ℕ) : Type 0 where
+pub record LinesTo (file bytes ends schema instance bytes′ ends′ schema′ instance′ : List ℕ)
+    (b s r i : ℕ) : Type 0 where
   pub tables : Tables
   pub reads : readJob file ≡ read tables
   pub bytes-hold : bytes′ ≡ sets bytes 0 (tables .strings .bytes)
@@ -192,5 +204,6 @@ pub record LinesTo (file bytes ends schema instance bytes′ ends′ schema′ i
   pub instance-size : i ≡ length (tables .instance)
 
 abbrev pub LinesHeld : List ℕ → List ℕ → List ℕ → List ℕ → List ℕ → List ℕ → List ℕ → List ℕ → List ℕ → Held → Type 0
-LinesHeld file bytes ends schema instance bytes′ ends′ schema′ instance′ (held.Tables b s r i) = LinesTo file bytes ends schema instance bytes′ ends′ schema′ instance′ b s r i
+LinesHeld file bytes ends schema instance bytes′ ends′ schema′ instance′ (held.Tables b s r i) =
+    LinesTo file bytes ends schema instance bytes′ ends′ schema′ instance′ b s r i
 LinesHeld file bytes ends schema instance bytes′ ends′ schema′ instance′ (held.Wrong n) = readJob file ≡ wrong n

@@ -10,7 +10,9 @@ ghost use Rattle.job.specs.Lines.{linesOf, fieldsOf};
 ghost use Rattle.job.specs.Reading.{maxFile, count, wordsOf, rowOf, readJob, noTables};
 ghost use Rattle.job_numbers.specs.Answers.{asNumber};
 ghost use Rattle.job_lines.specs.Parts.{stringAfter, LineEnd, KeyEnd, FieldEnd, Stores};
-ghost use Rattle.job_lines.specs.Steps.{LiteralLine, CountLine, StringSection, readStrings, RowSection, readRows, readTable, EndLine, lineOf, FrontRead, BackRead, maxFront, maxWords, LinesHeld};
+ghost use Rattle.job_lines.specs.Steps.{LiteralLine, CountLine, StringSection, readStrings};
+ghost use Rattle.job_lines.specs.Steps.{RowSection, readRows, readTable, EndLine, lineOf};
+ghost use Rattle.job_lines.specs.Steps.{FrontRead, BackRead, maxFront, maxWords, LinesHeld};
 ghost use Rattle.job_lines.specs.Promises.{heldAs, tablesIn, roomOf, OutputsHold};
 
 // A position, if there is one.
@@ -415,7 +417,7 @@ fn read_lines(
     }
 }
 
-// All four outputs zero.
+// All four outputs are zeros throughout.
 pub fn zero_outputs(bytes: &mut [u8], ends: &mut [u32], schema: &mut [u32], instance: &mut [u32])
     ensures { λ _.
         ⌜ OutputsHold noTables (roomOf (now (bytes .entry)) (now (ends .entry)) (now (schema .entry)) (now (instance .entry))) (now (bytes .exit))
@@ -427,7 +429,8 @@ pub fn zero_outputs(bytes: &mut [u8], ends: &mut [u32], schema: &mut [u32], inst
     tables::zero_u32(instance);
 }
 
-// The lines of a file: each table laid in its output as far as it fits, and none where a line is wrong.
+// The first wrong line, and zeros in the outputs, exactly when a file reads as no job, where a file that is too long is
+// wrong at 0; otherwise the lengths of the four tables, each in its output as far as it fits, with zeros after it.
 pub fn read_tables(
     file: &[u8],
     bytes: &mut [u8],

@@ -49,7 +49,7 @@ fn read_digits(text: &[u8]) -> Number
     Number::Value(value as u32)
 }
 
-// A number: decimal digits without a leading zero, below the largest word.
+// The number that a text is: decimal digits without a leading zero, below the largest word; none for any other text.
 pub fn read_number(text: &[u8]) -> Number
     ensures { λ r. ⌜ r ≡ asNumber (numberOf (now (text .entry))) ⌝ }
 {
@@ -59,7 +59,7 @@ pub fn read_number(text: &[u8]) -> Number
     Number::NoNumber
 }
 
-// A number, or `-` for the largest word.
+// The word that a text is: a number, or the largest word for `-`; none for any other text.
 pub fn read_word(text: &[u8]) -> Number
     ensures { λ r. ⌜ r ≡ asNumber (wordOf (now (text .entry))) ⌝ }
 {
@@ -72,7 +72,7 @@ pub fn read_word(text: &[u8]) -> Number
     read_number(text)
 }
 
-// The value of a lower-case hexadecimal digit.
+// The value of a lower-case hexadecimal digit; none for any other byte.
 pub fn hex_digit(c: u8) -> Number
     ensures { λ r. ⌜ r ≡ asNumber (hexValue c) ⌝ }
 {

@@ -16,7 +16,7 @@ use Rattle.job_lines.specs.Promises.{Room}
 use Rattle.job_reader.specs.declared.JobRead.{JobRead}
 use Rattle.job_reader.specs.declared.JobRead.the-variants.{Read, NotRead}
 
--- what an answer says of refusal; `codeOf` and `placeOf` of it are document 01's code and place
+-- what an answer says of refusal; `codeOf` and `placeOf` of it are the code and place of FORMAT, "Codes and places"
 abbrev pub readVerdict : JobRead → Verdict
 readVerdict (Read bytes strings rows nodes) = Passed
 readVerdict (NotRead code place) = Refused code place
@@ -35,11 +35,19 @@ countsOf (NotRead code place) = record { bytes = 0; strings = 0; rows = 0; nodes
 
 -- of tables
 abbrev pub countsIn : Tables → Counts
-countsIn t = record { bytes = length (t .strings .bytes); strings = length (t .strings .ends); rows = rowsOf (t .schema); nodes = nodesOf (t .instance) }
+countsIn t =
+    record {
+      bytes = length (t .strings .bytes);
+      strings = length (t .strings .ends);
+      rows = rowsOf (t .schema);
+      nodes = nodesOf (t .instance);
+    }
 
 -- no output is too short
 abbrev pub fits : Tables → Room → Bool
-fits t room = leb (length (t .strings .bytes)) (room .bytes) && leb (length (t .strings .ends)) (room .ends) && leb (length (t .schema)) (room .schema) && leb (length (t .instance)) (room .instance)
+fits t room =
+    leb (length (t .strings .bytes)) (room .bytes) && leb (length (t .strings .ends)) (room .ends)
+    && leb (length (t .schema)) (room .schema) && leb (length (t .instance)) (room .instance)
 
 -- 13 where a line is wrong; then 12 where an output is too short
 abbrev pub readCode : Reading → Room → ℕ

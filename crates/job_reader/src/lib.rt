@@ -42,7 +42,8 @@ fn fit(
     true
 }
 
-// A job file into four lent tables: codes 13 and 12.
+// A job file into four lent tables: refused by 13 at the first wrong line, then by 12 at 0 where an output is too
+// short; otherwise the four counts. Each output is its table and then zeros, and zeros throughout at a refusal.
 pub fn read_job(
     file: &[u8],
     bytes: &mut [u8],

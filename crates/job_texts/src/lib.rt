@@ -186,7 +186,8 @@ fn put_rows(
     p
 }
 
-// The whole text of a job whose tables keep their limits; the position after it.
+// The text of a job whose tables keep their limits, as the caller shows, from the front of the output as far as it
+// fits, and its length; what comes after it is as it was.
 pub fn put_job(
     out: &mut [u8],
     bytes: &[u8],
@@ -258,7 +259,8 @@ fn kept(out: &mut [u8], size: usize) -> u32
     size as u32
 }
 
-// What `check` prints for a match list of at most 8,192 pairs, whose words are lent.
+// The lines of the verdict, of the number of pairs and of each pair, with zeros after them, and their length; zeros and
+// 0 in an output that is too short. The caller shows that the list has an even number of words, at most 16,384.
 pub fn write_matches(valid: bool, list: &[u32], out: &mut [u8]) -> u32
     requires { ⌜ (length (now list) ≤ 16384) × (length (now list) % 2 ≡ 0) ⌝ }
     ensures { λ r. ⌜ TextIn (matchText valid (now (list .entry))) (length (now (out .entry))) (now (out .exit)) r ⌝ }
@@ -268,7 +270,7 @@ pub fn write_matches(valid: bool, list: &[u32], out: &mut [u8]) -> u32
     kept(out, size)
 }
 
-// What `check` prints for a refusal.
+// The one line of a refusal, with zeros after it, and its length; zeros and 0 in an output that is too short.
 pub fn write_refusal(code: u32, place: u32, out: &mut [u8]) -> u32
     ensures { λ r. ⌜ TextIn (refusalText code place) (length (now (out .entry))) (now (out .exit)) r ⌝ }
 {

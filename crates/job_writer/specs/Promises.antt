@@ -19,7 +19,7 @@ use Rattle.job.specs.Written.{jobText}
 use Rattle.job_writer.specs.declared.JobWritten.{JobWritten}
 use Rattle.job_writer.specs.declared.JobWritten.the-variants.{Written, NotWritten}
 
--- what an answer says of refusal; `codeOf` and `placeOf` of it are document 01's code and place
+-- what an answer says of refusal; `codeOf` and `placeOf` of it are the code and place of FORMAT, "Codes and places"
 abbrev pub writtenVerdict : JobWritten → Verdict
 writtenVerdict (Written size) = Passed
 writtenVerdict (NotWritten code place) = Refused code place
@@ -45,6 +45,7 @@ textGiven code text = cond (eqb code 0) text []
 
 -- the answer, and the output of so many bytes to its end
 pub record WriteJob (J : Tables) (room : ℕ) (out : List ℕ) (r : JobWritten) : Type 0 where
-  pub refusal : Tries 1 (StringFault (J .strings)) (Tries 2 (TableFault 3 maxRows (J .schema)) (Tries 9 (TableFault 5 maxNodes (J .instance)) (Tries 12 (TextFault (jobText J) room) Passes))) (writtenVerdict r)
+  pub refusal : Tries 1 (StringFault (J .strings)) (Tries 2 (TableFault 3 maxRows (J .schema))
+      (Tries 9 (TableFault 5 maxNodes (J .instance)) (Tries 12 (TextFault (jobText J) room) Passes))) (writtenVerdict r)
   pub size : sizeOf r ≡ length (textGiven (codeOf (writtenVerdict r)) (jobText J))
   pub holds : out ≡ laid room (textGiven (codeOf (writtenVerdict r)) (jobText J))

@@ -49,7 +49,8 @@ fn refuse(out: &mut [u8], code: u32, place: u32) -> JobWritten
     JobWritten::NotWritten(code, place)
 }
 
-// The four tables of a job as text in a lent output: codes 1, 2, 9 and 12.
+// The four tables of a job as text in a lent output: refused by 1, then by 2 or 9 at 0, then by 12 at 0; otherwise the
+// length of the text. The output is the text and then zeros, and zeros throughout at a refusal.
 pub fn write_job(
     bytes: &[u8],
     ends: &[u32],

@@ -29,7 +29,9 @@ Repetition m a k alone R = Where (Subset a alone) (Or (Plus R) (Where (0 < a) (G
 
 -- the words hold the relation of row p, if that has no operands
 abbrev pub HoldsLeaf : (s marks : List ℕ) (m a k p : ℕ) → List ℕ → Type 0
-HoldsLeaf s marks m a k p words = connective (kindOf s p) ≡ false → (named taken single : List ℕ) → HoldsRelated s marks named taken single m a k p words
+HoldsLeaf s marks m a k p words =
+    connective (kindOf s p) ≡ false → (named taken single : List ℕ)
+    → HoldsRelated s marks named taken single m a k p words
 
 -- the operands of row p are smaller rows, each with its share of the attributes and items
 pub record SharedOut (s marks named taken single : List ℕ) (m p a₁ k₁ a₂ k₂ : ℕ) (work : List ℕ) : Type 0 where

@@ -14,9 +14,7 @@ use Rattle.relations.specs.Words.{Is}
 use Rattle.matching_rules.specs.Items.{Item}
 use Rattle.matching_rules.specs.Rules.{NotMatchBy}
 use Rattle.matching_rules.specs.Job.{lookups}
-use Rattle.matching_rules.specs.Spans.{CleanAt}
-use Rattle.matching_rules.specs.Spans.{Distinct}
-use Rattle.matching_rules.specs.Spans.{Span}
+use Rattle.matching_rules.specs.Spans.{CleanAt, Distinct, Span}
 use Rattle.matching_marks.specs.Marks.{attributesIn, PatternMarked}
 
 -- an element, for a schema that passes: its attributes and items
@@ -43,7 +41,10 @@ module _ {s : List ℕ} (S : Setting s) where
 
   -- i and j, of m positions, are related where the attributes a and the items of k in [i, j) match the pattern at row p
   abbrev pub Related : (m a k p : ℕ) → Relation
-  Related m a k p i j = (j < m) × Span (lookups tablesIn) (NotMatchBy (lookups tablesIn) (rowsOf s)) (attributesIn (S .element) a) (S .it) (bit k) p i j
+  Related m a k p i j =
+      (j < m)
+      × Span (lookups tablesIn) (NotMatchBy (lookups tablesIn) (rowsOf s)) (attributesIn (S .element) a)
+      (S .it) (bit k) p i j
 
   -- the tables hold, for every row that occurs in the pattern at row p, what that does with the attributes and items of
   -- the element
@@ -61,4 +62,5 @@ module _ (s marks named taken single : List ℕ) (m a k p : ℕ) where
 
   -- the words hold the relation of row p for every element whose tables cover it
   abbrev pub HoldsRelated : List ℕ → Type 0
-  HoldsRelated words = (S : Setting s) → Asked S a k → Covered S marks named taken single p → Is words (Related S m a k p)
+  HoldsRelated words =
+      (S : Setting s) → Asked S a k → Covered S marks named taken single p → Is words (Related S m a k p)

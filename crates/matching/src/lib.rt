@@ -241,8 +241,10 @@ fn interleave(
     relations::meet(m, work);
 }
 
-// The relation of row p in the first m words of work: i and j are related where the attributes a and the items of k in
-// [i, j) match its pattern.
+// The relation of row p in the first m words of work: i and j are related exactly where the attributes a and the items
+// of k in [i, j) match its pattern by the rules of 9.3, in every setting in which the words of the pattern's rows are
+// right. The words from m on are work space, and left open. The caller shows one such setting, that m is at most 64,
+// and that 64 (p + 1) words are lent.
 pub fn relate(
     schema: &[u32],
     marks: &[u64],

@@ -26,7 +26,8 @@ Blank T blank = (k : ℕ) → k < instanceStrings T → (getD blank k 0 ≡ 1) �
 
 -- v is 1 exactly when the string alone, with no attributes, matches the pattern at row p
 abbrev pub TellsString : (J : Tables) (p k v : ℕ) → Type 0
-TellsString J p k v = (v ≡ 1) ↔ Matches (lookups J) noAttributes (string (textOf (J .strings) k) ∷ []) (patternOf (J .schema) p)
+TellsString J p k v =
+    (v ≡ 1) ↔ Matches (lookups J) noAttributes (string (textOf (J .strings) k) ∷ []) (patternOf (J .schema) p)
 
 -- and so the empty sequence
 abbrev pub TellsNothing : (J : Tables) (p v : ℕ) → Type 0
@@ -34,7 +35,8 @@ TellsNothing J p v = (v ≡ 1) ↔ Matches (lookups J) noAttributes [] (patternO
 
 -- the entries of the rows before n, whatever the instance is
 pub record Alone (T : StringTable) (s alone nothing : List ℕ) (n : ℕ) : Type 0 where
-  pub strings : (t : List ℕ) (p k : ℕ) → p < n → k < instanceStrings T → TellsString (tablesOf T s t) p k (entry alone p k)
+  pub strings : (t : List ℕ) (p k : ℕ) → p < n → k < instanceStrings T
+      → TellsString (tablesOf T s t) p k (entry alone p k)
   pub empty : (t : List ℕ) (p : ℕ) → p < n → TellsNothing (tablesOf T s t) p (getD nothing p 0)
 
 -- the schema passes, and the tables have room for all rows and strings

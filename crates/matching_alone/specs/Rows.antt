@@ -32,7 +32,8 @@ pub record DataEntry (alone : List ℕ) (except k v : ℕ) : Type 0 where
 
 -- one of two patterns matches the string alone, and the other the empty sequence
 abbrev pub OneSide : (alone nothing : List ℕ) (a b k : ℕ) → Type 0
-OneSide alone nothing a b k = ((entry alone a k ≡ 1) × (getD nothing b 0 ≡ 1)) ⊎ ((getD nothing a 0 ≡ 1) × (entry alone b k ≡ 1))
+OneSide alone nothing a b k =
+    ((entry alone a k ≡ 1) × (getD nothing b 0 ≡ 1)) ⊎ ((getD nothing a 0 ≡ 1) × (entry alone b k ≡ 1))
 
 abbrev pub OneOf : (alone nothing : List ℕ) (a b k v : ℕ) → Type 0
 OneOf alone nothing a b k v = (v ≡ 1) ↔ OneSide alone nothing a b k
@@ -43,7 +44,9 @@ EqualTo T datatype w k v = (v ≡ 1) ↔ datatypeEqual datatype (textOf T k) (te
 
 -- the tokens of the string match the pattern at row a, whatever the instance is
 abbrev pub TokensTo : (T : StringTable) (s : List ℕ) (a k v : ℕ) → Type 0
-TokensTo T s a k v = (t : List ℕ) → (v ≡ 1) ↔ Matches (lookups (tablesOf T s t)) noAttributes (map string (split (textOf T k))) (patternOf s a)
+TokensTo T s a k v =
+    (t : List ℕ)
+    → (v ≡ 1) ↔ Matches (lookups (tablesOf T s t)) noAttributes (map string (split (textOf T k))) (patternOf s a)
 
 -- row q comes before row p, and is a value with the same fields
 pub record SameRow (s : List ℕ) (q p : ℕ) : Type 0 where
@@ -62,11 +65,15 @@ LeadsTo T leads n = (k : ℕ) → k < n → getD leads k 0 ≡ leadOf (textOf T 
 
 -- the answer for the empty sequence at row p, where the rows before it are right
 abbrev pub NothingAt : (s nothing : List ℕ) (p v : ℕ) → Type 0
-NothingAt s nothing p v = (T : StringTable) (t alone : List ℕ) → SchemaPasses (schemaStrings T) s → Alone T s alone nothing p → TellsNothing (tablesOf T s t) p v
+NothingAt s nothing p v =
+    (T : StringTable) (t alone : List ℕ) → SchemaPasses (schemaStrings T) s → Alone T s alone nothing p
+    → TellsNothing (tablesOf T s t) p v
 
 -- the answer for string k at row p, where the rows before it are right
 abbrev pub StringAt : (T : StringTable) (s alone nothing : List ℕ) (p k v : ℕ) → Type 0
-StringAt T s alone nothing p k v = (t : List ℕ) → SchemaPasses (schemaStrings T) s → Alone T s alone nothing p → k < instanceStrings T → TellsString (tablesOf T s t) p k v
+StringAt T s alone nothing p k v =
+    (t : List ℕ) → SchemaPasses (schemaStrings T) s → Alone T s alone nothing p → k < instanceStrings T
+    → TellsString (tablesOf T s t) p k v
 
 -- the first n entries of row p are as f tells, and nothing before the row has changed
 pub record RowOf (f : ℕ → ℕ → Type 0) (before after : List ℕ) (p n : ℕ) : Type 0 where
@@ -76,7 +83,9 @@ pub record RowOf (f : ℕ → ℕ → Type 0) (before after : List ℕ) (p n : �
 
 -- the entries of row p are right, where those of the rows before it are
 abbrev pub RowMade : (T : StringTable) (s before nothing after : List ℕ) (p : ℕ) → Type 0
-RowMade T s before nothing after p = SchemaPasses (schemaStrings T) s → Alone T s before nothing p → RowOf (λ k v. (t : List ℕ) → TellsString (tablesOf T s t) p k v) before after p (instanceStrings T)
+RowMade T s before nothing after p =
+    SchemaPasses (schemaStrings T) s → Alone T s before nothing p
+    → RowOf (λ k v. (t : List ℕ) → TellsString (tablesOf T s t) p k v) before after p (instanceStrings T)
 
 -- the row of pattern p can be filled: the schema passes, there are few bytes, and the rows before p are right
 pub record Fillable (T : StringTable) (s alone nothing : List ℕ) (p : ℕ) : Type 0 where

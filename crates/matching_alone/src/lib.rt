@@ -14,7 +14,8 @@ ghost use Rattle.matching_tokens.specs.Tokens.{ListReady};
 ghost use Rattle.schema.specs.Kinds.{noRow, value};
 ghost use Rattle.schema.specs.Rows.{kindOf};
 ghost use Rattle.matching_alone.specs.Alone.{Blank, Alone, FillReady, Filled};
-ghost use Rattle.matching_alone.specs.Rows.{EitherOf, NotOf, DataEntry, OneOf, EqualTo, TokensTo, SameRow, leadOf, LeadsTo, NothingAt, RowOf, Fillable, FillableList, RowMade};
+ghost use Rattle.matching_alone.specs.Rows.{EitherOf, NotOf, DataEntry, OneOf, EqualTo, TokensTo, SameRow};
+ghost use Rattle.matching_alone.specs.Rows.{leadOf, LeadsTo, NothingAt, RowOf, Fillable, FillableList, RowMade};
 
 fn either(x: u8, y: u8) -> u8
     ensures { λ r. ⌜ (r ≡ 1) ↔ ((x ≡ 1) ⊎ (y ≡ 1)) ⌝ }
@@ -418,7 +419,10 @@ fn fill_blank(bytes: &[u8], ends: &[u32], blank: &mut [u8])
     }
 }
 
-// The three tables of a schema that passes.
+// The three tables of a schema: which strings match each pattern alone, which patterns match the empty sequence, and
+// which strings are whitespace, by entries that are 1 exactly there. What another entry is instead of 1, and what
+// stands past the rows and strings that there are, is left open. The caller shows that the schema passes, and that the
+// tables have room.
 pub fn fill(
     bytes: &[u8],
     ends: &[u32],

@@ -23,7 +23,7 @@ fn is_child(instance: &[u32], e: u32, r: u32) -> bool
     (instance::parent(instance, r) == e) & ((kind == instance::ELEMENT) | (kind == instance::TEXT))
 }
 
-// How many attributes element e has, counted to one more than an element may have.
+// How many rows right after element e are its attributes, counted to 64. The caller shows that e is before row 1,024.
 pub fn attributes(instance: &[u32], e: u32) -> u32
     requires { ⌜ e < maxNodes ⌝ }
     ensures { λ n. ⌜ Counted (now (instance .entry)) e n ⌝ }
@@ -51,8 +51,9 @@ fn add_child(instance: &[u32], e: u32, r: u32, n: u32, rows: &mut [u32]) -> u32
     n
 }
 
-// The rows of the children of element e, and how many there are. Past the first row whose parent comes before e there
-// is none: the rows of e's descendants stand together.
+// The rows of the children of a row of a table that is right, as far as there is room, and how many there are; the
+// words after them are as they were. Past the first row whose parent comes before e there is none: the rows of e's
+// descendants stand together.
 pub fn children(instance: &[u32], e: u32, rows: &mut [u32]) -> u32
     requires { ⌜ RightRow (now instance) e ⌝ }
     ensures { λ n. ⌜ Begins (now (rows .entry)) (now (rows .exit)) (childrenOf (now (instance .entry)) e) n ⌝ }
@@ -70,7 +71,7 @@ pub fn children(instance: &[u32], e: u32, rows: &mut [u32]) -> u32
     n
 }
 
-// The positions of the rows of a kind, among the first n.
+// The set of the positions of the rows of a kind, among the first n. The caller shows that n is at most 63.
 pub fn of_kind(instance: &[u32], rows: &[u32], n: u32, kind: u32) -> u64
     requires { ⌜ n ≤ maxWidth ⌝ }
     ensures { λ w. ⌜ Collects (ofKind (now (instance .entry)) (now (rows .entry)) kind) n w ⌝ }
@@ -94,7 +95,8 @@ fn item_word(instance: &[u32], r: u32) -> u32
     r
 }
 
-// The first n rows become items.
+// Each of the first n rows, as far as there are any, becomes its item: a text its string, an element its row. The rows
+// after them are as they were.
 pub fn to_items(instance: &[u32], rows: &mut [u32], n: u32)
     ensures { λ _. ⌜ Itemized (now (instance .entry)) (now (rows .entry)) (now (rows .exit)) n ⌝ }
 {

@@ -28,7 +28,8 @@ rowPairs table definitions e (suc n) = rowPairs table definitions e n ++ pairIf 
 -- the marked pairs of the first n rows
 unfoldable pub markedPairs : List ℕ → List ℕ → ℕ → List (ℕ × ℕ)
 markedPairs table definitions zero = []
-markedPairs table definitions (suc n) = markedPairs table definitions n ++ rowPairs table definitions n (length definitions)
+markedPairs table definitions (suc n) =
+    markedPairs table definitions n ++ rowPairs table definitions n (length definitions)
 
 -- pairs are put after n others, as far as they fit, and the new number is m
 pub record PutPairs (before : List ℕ) (n : ℕ) (pairs : List (ℕ × ℕ)) (after : List ℕ) (m : ℕ) : Type 0 where
@@ -38,9 +39,12 @@ pub record PutPairs (before : List ℕ) (n : ℕ) (pairs : List (ℕ × ℕ)) (a
 -- the answer r and all of the list, which has so many words: the words of the marked pairs and zeros after them, or
 -- zeros where it has too few
 pub data ListsPairs (table definitions : List ℕ) (rows room : ℕ) (list : List ℕ) (r : Listed) : Type 0 where
-  whole : length (markedPairs table definitions rows) * 2 ≤ room → r ≡ Pairs (length (markedPairs table definitions rows))
-      → list ≡ laid room (pairWords (markedPairs table definitions rows)) → ListsPairs table definitions rows room list r
-  short : room < length (markedPairs table definitions rows) * 2 → r ≡ TooShort → list ≡ zeros room → ListsPairs table definitions rows room list r
+  whole : length (markedPairs table definitions rows) * 2 ≤ room
+      → r ≡ Pairs (length (markedPairs table definitions rows))
+      → list ≡ laid room (pairWords (markedPairs table definitions rows))
+      → ListsPairs table definitions rows room list r
+  short : room < length (markedPairs table definitions rows) * 2 → r ≡ TooShort → list ≡ zeros room
+      → ListsPairs table definitions rows room list r
 
 -- n pairs were put into a list: they stay where they fit, and are taken back to zeros where they do not
 pub data KeepsListed (before : List ℕ) (n : ℕ) (after : List ℕ) (r : Listed) : Type 0 where

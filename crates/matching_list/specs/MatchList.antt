@@ -19,13 +19,14 @@ pub record MatchList (J : Tables) (l : List (ℕ × ℕ)) : Type 0 where
   pub lists : Lists (Pair J) l
 
 -- the match list l in a list of so many words, with the number of its pairs and valid or not
-pub record ListWritten (J : Tables) (l : List (ℕ × ℕ)) (room : ℕ) (list : List ℕ) (number : ℕ) (valid : Bool) : Type 0 where
+pub record ListWritten (J : Tables) (l : List (ℕ × ℕ)) (room : ℕ) (list : List ℕ) (number : ℕ)
+    (valid : Bool) : Type 0 where
   pub fit : length l * 2 ≤ room
-  -- the two words of each pair in order, then zeros
+  -- the pairs as words, one behind the other, and zeros to the end
   pub words : list ≡ laid room (pairWords l)
   pub counted : number ≡ length l
-  -- valid exactly when the root is paired with a definition that the start names, which is when a derivation by (valid)
-  -- of 9.4 exists
+  -- valid is yes exactly when the list has a pair of row 0 and a definition that the start names, and exactly when a
+  -- derivation by (valid) of 9.4 exists
   pub rooted : Decides ((d : ℕ) × StartNames J d × List·Memᴰ (0, d) l) valid
   pub derived : Decides (job.Valid J) valid
 

@@ -26,8 +26,11 @@ pub record StartAsked (s pairs : List ℕ) (p : ℕ) : Type 0 where
 -- whether the root alone matches the pattern at row p, for all strings and instances for which the pairs are right
 abbrev pub TellsRoot : (s pairs : List ℕ) (p : ℕ) → Bool → Type 0
 TellsRoot s pairs p r =
-    (T : StringTable) (t : List ℕ) → TablesPass (tablesOf T s t) → PairsRight (tablesOf T s t) pairs → Starts (lookups (tablesOf T s t)) (patternOf s p) → Decides (Matches (lookups (tablesOf T s t)) noAttributes (element 0 ∷ []) (patternOf s p)) r
+    (T : StringTable) (t : List ℕ) → TablesPass (tablesOf T s t) → PairsRight (tablesOf T s t) pairs
+    → Starts (lookups (tablesOf T s t)) (patternOf s p)
+    → Decides (Matches (lookups (tablesOf T s t)) noAttributes (element 0 ∷ []) (patternOf s p)) r
 
 -- (valid) of 9.4, for all strings and instances for which the pairs are right
 pub record TellsValid (s pairs : List ℕ) (r : Bool) : Type 0 where
-  pub tells : (T : StringTable) (t : List ℕ) → TablesPass (tablesOf T s t) → PairsRight (tablesOf T s t) pairs → Decides (Valid (tablesOf T s t)) r
+  pub tells : (T : StringTable) (t : List ℕ) → TablesPass (tablesOf T s t) → PairsRight (tablesOf T s t) pairs
+      → Decides (Valid (tablesOf T s t)) r

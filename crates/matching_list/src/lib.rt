@@ -177,7 +177,10 @@ fn list_matches(
     }
 }
 
-// The match list of tables that pass, with valid or not.
+// The match list of tables that pass, as the caller shows: too short exactly when the list has fewer words than the
+// pairs take, two each, and then zeros throughout; otherwise the two words of each pair, by element and then by
+// definition, each once, and zeros after them. The number is that of the pairs. Valid is answered exactly when some
+// definition that start names makes a pair with the root, which is when (valid) of 9.4 has a derivation.
 pub fn match_pairs(
     bytes: &[u8],
     ends: &[u32],
@@ -194,7 +197,7 @@ pub fn match_pairs(
     list_matches(bytes, ends, schema, instance, &mut pairs, list)
 }
 
-// Whether the instance of tables that pass is valid.
+// Yes exactly when the root matches the pattern of start, (valid) of 9.4. The caller shows that the tables pass.
 pub fn is_valid(bytes: &[u8], ends: &[u32], schema: &[u32], instance: &[u32]) -> bool
     requires { ⌜ TablesPass (tablesOf (stringTable (now bytes) (now ends)) (now schema) (now instance)) ⌝ }
     ensures { λ r. ⌜ Decides (Valid (tablesOf (stringTable (now (bytes .entry)) (now (ends .entry))) (now (schema .entry)) (now (instance .entry)))) r ⌝ }

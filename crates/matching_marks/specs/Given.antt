@@ -39,7 +39,9 @@ pub record Given (J : Tables) (alone nothing blank pairs items : List ℕ) (e at
   pub values : (x : ℕ) → x < attributes → cOf (J .instance) (attributeRow e x) < instanceStrings (J .strings)
   pub strings : (k : ℕ) → k < length items → bit texts k ≡ true → getD items k 0 < instanceStrings (J .strings)
   -- the elements among the items have their pairs
-  pub elements : (k d : ℕ) → k < length items → bit texts k ≡ false → d < rowsOf (J .schema) → (pairEntry pairs (getD items k 0) d ≡ 1) ↔ Paired (lookups J) (NotMatchBy (lookups J) (rowsOf (J .schema))) (getD items k 0) d
+  pub elements : (k d : ℕ) → k < length items → bit texts k ≡ false → d < rowsOf (J .schema)
+      → (pairEntry pairs (getD items k 0) d ≡ 1) ↔ Paired (lookups J)
+      (NotMatchBy (lookups J) (rowsOf (J .schema))) (getD items k 0) d
 
 module _ (s t alone nothing blank pairs items : List ℕ) (e attributes texts p : ℕ) where
   -- there are strings for which the tables of an element are right, and the tables of words have room for every row
@@ -55,4 +57,5 @@ module _ (s t alone nothing blank pairs items : List ℕ) (e attributes texts p 
   -- the pattern at row p is marked, for all strings for which the tables of the element are right
   pub record MarksPattern (marks₀ named₀ taken₀ single₀ marks named taken single : List ℕ) : Type 0 where
     pub marking : (T : StringTable) → Given (tablesOf T s t) alone nothing blank pairs items e attributes texts
-        → Marking (tablesOf T s t) e attributes (itemAt T items texts) (length items) marks₀ named₀ taken₀ single₀ marks named taken single p
+        → Marking (tablesOf T s t) e attributes (itemAt T items texts) (length items)
+        marks₀ named₀ taken₀ single₀ marks named taken single p

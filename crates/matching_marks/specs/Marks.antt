@@ -14,7 +14,8 @@ use Rattle.sets.specs.Bits.{bit}
 use Rattle.matching_rules.specs.Items.{Item, element, string, Attributes, noAttributes, only, Lookups}
 use Rattle.matching_rules.specs.Rules.{Match, WeakMatch, NotMatchBy}
 use Rattle.matching_rules.specs.Job.{lookups}
-use Rattle.matching_rules.specs.Reach.{Role, strings, oneString, anAttribute, anElement, sharing, another, roleOf, Reaches, namesAttribute, takes, takesAny}
+use Rattle.matching_rules.specs.Reach.{Role, strings, oneString, anAttribute, anElement, sharing}
+use Rattle.matching_rules.specs.Reach.{another, roleOf, Reaches, namesAttribute, takes, takesAny}
 use Rattle.matching_rules.specs.Restricted.{Flat}
 use Rattle.matching_rules.specs.Spans.{Paired}
 
@@ -62,16 +63,21 @@ module _ (J : Tables) where
   L = lookups J
 
   abbrev pub AttributeWord : (e attributes p w : ℕ) → Type 0
-  AttributeWord e attributes p w = (nc q x : ℕ) → patternOf (J .schema) p ≡ attribute nc q → x < attributes → (bit w x ≡ true) ↔ TakesAttribute L nc q (attributeRow e x)
+  AttributeWord e attributes p w =
+      (nc q x : ℕ) → patternOf (J .schema) p ≡ attribute nc q → x < attributes
+      → (bit w x ≡ true) ↔ TakesAttribute L nc q (attributeRow e x)
 
   -- the items that a pattern which takes items takes, and the attributes that an attribute pattern takes
   pub record LeafWord (e attributes : ℕ) (it : ℕ → Item) (items p w : ℕ) : Type 0 where
-    pub leaves : (k : ℕ) → k < items → takesAny (patternOf (J .schema) p) ≡ true → (bit w k ≡ true) ↔ Takes L (patternOf (J .schema) p) (it k)
+    pub leaves : (k : ℕ) → k < items → takesAny (patternOf (J .schema) p) ≡ true
+        → (bit w k ≡ true) ↔ Takes L (patternOf (J .schema) p) (it k)
     pub attribute-leaves : AttributeWord e attributes p w
 
   -- the attributes that an attribute pattern reached from p names
   abbrev pub NamedWord : (e attributes p w : ℕ) → Type 0
-  NamedWord e attributes p w = (x : ℕ) → x < attributes → (bit w x ≡ true) ↔ Reaches L (namesAttribute L (attributeRow e x)) (patternOf (J .schema) p)
+  NamedWord e attributes p w =
+      (x : ℕ) → x < attributes
+      → (bit w x ≡ true) ↔ Reaches L (namesAttribute L (attributeRow e x)) (patternOf (J .schema) p)
 
   -- the items that a pattern reached from p takes
   abbrev pub TakenWord : (it : ℕ → Item) (items p w : ℕ) → Type 0
@@ -79,7 +85,10 @@ module _ (J : Tables) where
 
   -- the attributes that match p alone, where none stands in a group or interleave
   abbrev pub SingleWord : (e attributes p w : ℕ) → Type 0
-  SingleWord e attributes p w = (x : ℕ) → x < attributes → Flat L (patternOf (J .schema) p) → (bit w x ≡ true) ↔ Match L (NotMatchBy L (rowsOf (J .schema))) (only (attributeRow e x)) [] (patternOf (J .schema) p)
+  SingleWord e attributes p w =
+      (x : ℕ) → x < attributes → Flat L (patternOf (J .schema) p)
+      → (bit w x ≡ true)
+      ↔ Match L (NotMatchBy L (rowsOf (J .schema))) (only (attributeRow e x)) [] (patternOf (J .schema) p)
 
 -- for an element e with so many attributes, whose items are the first so many of it
 module _ (J : Tables) (e attributes : ℕ) (it : ℕ → Item) (items : ℕ) where

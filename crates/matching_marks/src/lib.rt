@@ -6,10 +6,13 @@ ghost use lib.ListN.{length, getD};
 ghost use Rattle.schema.specs.Rows.{kindOf, aOf, bOf};
 ghost use Rattle.instance.specs.Width.{maxWidth};
 ghost use Rattle.sets.specs.Collecting.{Collects};
-ghost use Rattle.matching_marks.specs.Answers.{RowRoom, LeafAnswer, NamedAnswer, TakenAnswer, SingleAnswer, RowAnswer, SmallerAnswer, OperandsAnswer, PatternAnswer, firstOperand, secondOperand};
+ghost use Rattle.matching_marks.specs.Answers.{RowRoom, LeafAnswer, NamedAnswer, TakenAnswer};
+ghost use Rattle.matching_marks.specs.Answers.{SingleAnswer, RowAnswer, SmallerAnswer, OperandsAnswer};
+ghost use Rattle.matching_marks.specs.Answers.{PatternAnswer, firstOperand, secondOperand};
 ghost use Rattle.matching_marks.specs.Given.{Markable, MarksPattern};
 ghost use Rattle.matching_marks.specs.Marks.{attributeRow};
-ghost use Rattle.matching_marks.specs.Tests.{hasName, valueFits, stringAlone, elementPaired, elementNamed, attributeNamed, attributeFits, joinedBy};
+ghost use Rattle.matching_marks.specs.Tests.{hasName, valueFits, stringAlone, elementPaired};
+ghost use Rattle.matching_marks.specs.Tests.{elementNamed, attributeNamed, attributeFits, joinedBy};
 
 // A row of the table of strings alone has an entry for each of 512 strings, one of the table of pairs an entry for each
 // of 512 schema rows.
@@ -483,9 +486,10 @@ fn mark_pattern(
     );
 }
 
-// The words of each row in the pattern at row p of a schema, for the element at row e, with so many attributes and with
-// these items, of which those in texts are strings by their numbers and the others elements by their rows. The words of
-// other rows may change, but those that are right stay so.
+// For each row that occurs in the pattern at row p the items that its pattern takes, the attributes that it takes,
+// those and the items that a pattern reached from it names or takes, and the attributes that match it alone. A row
+// whose words were right keeps right words; what else the words hold is left open. The caller shows that the schema
+// passes, that the tables given are right, and that each table has a word for every row.
 pub fn mark(
     schema: &[u32],
     instance: &[u32],

@@ -33,7 +33,8 @@ IsPair J e d = (isElement (J .instance) e ≡ true) × Paired (lookups J) (NotMa
 
 -- the entries of the instance rows from r on
 pub record PairsFrom (J : Tables) (pairs : List ℕ) (r : ℕ) : Type 0 where
-  pub entries : (e d : ℕ) → r ≤ e → e < nodesOf (J .instance) → d < rowsOf (J .schema) → (pairEntry pairs e d ≡ 1) ↔ IsPair J e d
+  pub entries : (e d : ℕ) → r ≤ e → e < nodesOf (J .instance) → d < rowsOf (J .schema)
+      → (pairEntry pairs e d ≡ 1) ↔ IsPair J e d
 
 abbrev pub PairsRight : (J : Tables) (pairs : List ℕ) → Type 0
 PairsRight J pairs = PairsFrom J pairs 0

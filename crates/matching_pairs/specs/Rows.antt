@@ -41,7 +41,8 @@ pub record RowKept (before after : List ℕ) (e : ℕ) : Type 0 where
 pub record RowTold (J : Tables) (definitions before after : List ℕ) (e n : ℕ) : Type 0 where
   pub others : RowKept before after e
   pub told : (j : ℕ) → j < n → (pairEntry after e (getD definitions j 0) ≡ 1) ↔ IsPair J e (getD definitions j 0)
-  pub rest : (d : ℕ) → d < maxRows → ((j : ℕ) → j < n → getD definitions j 0 ≢ d) → pairEntry after e d ≡ pairEntry before e d
+  pub rest : (d : ℕ) → d < maxRows → ((j : ℕ) → j < n → getD definitions j 0 ≢ d)
+      → pairEntry after e d ≡ pairEntry before e d
 
 -- the attributes a and the items k of element e stand for all of it: its content matches weakly exactly where they fit
 pub record Shown (J : Tables) (items : List ℕ) (e attributes texts a k : ℕ) (weak : Bool) : Type 0 where
@@ -51,9 +52,12 @@ pub record Shown (J : Tables) (items : List ℕ) (e attributes texts a k : ℕ) 
   pub clean : CleanAt (lookups J) (itemAt (J .strings) items texts) (bit k)
   pub ordered : OkAsChildren (lookups J .children e)
   pub content : (d : ℕ) → lookups J .isDefinition d ≡ true
-      → WeakMatch (lookups J) (NotMatchBy (lookups J) (rowsOf (J .schema))) (lookups J .attributes e) (lookups J .children e) (lookups J .pattern (lookups J .content d))
-      ↔ (Span (lookups J) (NotMatchBy (lookups J) (rowsOf (J .schema))) (attributesIn e a) (itemAt (J .strings) items texts) (bit k) (lookups J .content d) 0 (length items)
-      ⊎ ((weak ≡ true) × Span (lookups J) (NotMatchBy (lookups J) (rowsOf (J .schema))) (attributesIn e a) (itemAt (J .strings) items texts) (bit 0) (lookups J .content d) 0 (length items)))
+      → WeakMatch (lookups J) (NotMatchBy (lookups J) (rowsOf (J .schema))) (lookups J .attributes e)
+      (lookups J .children e) (lookups J .pattern (lookups J .content d))
+      ↔ (Span (lookups J) (NotMatchBy (lookups J) (rowsOf (J .schema))) (attributesIn e a)
+      (itemAt (J .strings) items texts) (bit k) (lookups J .content d) 0 (length items)
+      ⊎ ((weak ≡ true) × Span (lookups J) (NotMatchBy (lookups J) (rowsOf (J .schema))) (attributesIn e a)
+      (itemAt (J .strings) items texts) (bit 0) (lookups J .content d) 0 (length items)))
 
 -- the row of element e is right
 pub record RowRight (J : Tables) (before after : List ℕ) (e : ℕ) : Type 0 where
@@ -72,7 +76,8 @@ pub record Filling (J : Tables) (alone nothing blank pairs : List ℕ) (r : ℕ)
   pub empty : (e d : ℕ) → e < r → d < maxRows → pairEntry pairs e d ≡ 0
 
 -- what is known of element e before its entries: those of the later rows, its attributes and its content
-pub record Known (J : Tables) (alone nothing blank pairs items : List ℕ) (e attributes a n texts elements : ℕ) : Type 0 where
+pub record Known (J : Tables) (alone nothing blank pairs items : List ℕ)
+    (e attributes a n texts elements : ℕ) : Type 0 where
   pub filling : Filling J alone nothing blank pairs (e + 1)
   pub in-table : e < node.nodesOf (J .instance)
   pub counted : Counted (J .instance) e attributes
@@ -81,7 +86,8 @@ pub record Known (J : Tables) (alone nothing blank pairs items : List ℕ) (e at
   pub contents : Contents (J .instance) e items n texts elements
 
 -- what the items of an element are asked with
-pub record ElementReady (J : Tables) (alone nothing blank pairs items : List ℕ) (e attributes texts a k : ℕ) (weak : Bool) : Type 0 where
+pub record ElementReady (J : Tables) (alone nothing blank pairs items : List ℕ) (e attributes texts a k : ℕ)
+    (weak : Bool) : Type 0 where
   pub given : Given J alone nothing blank pairs items e attributes texts
   pub shown : Shown J items e attributes texts a k weak
   -- the elements among the items have rows of their own, and that of e is empty
@@ -91,7 +97,8 @@ pub record ElementReady (J : Tables) (alone nothing blank pairs items : List ℕ
 -- the first `count` items of after stand for the content that the n items of before are
 pub record StandsFor (blank before after : List ℕ) (n texts elements count strings k : ℕ) (weak : Bool) : Type 0 where
   pub few : count ≤ maxWidth
-  pub ready : (J : Tables) (alone nothing pairs : List ℕ) (e attributes a : ℕ) → Known J alone nothing blank pairs before e attributes a n texts elements
+  pub ready : (J : Tables) (alone nothing pairs : List ℕ) (e attributes a : ℕ)
+      → Known J alone nothing blank pairs before e attributes a n texts elements
       → ElementReady J alone nothing blank pairs (take count after) e attributes strings a k weak
 
 -- ---- what the functions that fill the table are asked with
@@ -105,7 +112,8 @@ pub record Space (marks named taken single work : List ℕ) : Type 0 where
   pub for-work : positions * maxRows ≤ length work
 
 -- an element and a definition, for some strings
-pub record PairAsked (s t alone nothing blank pairs items : List ℕ) (e attributes texts a k : ℕ) (weak : Bool) (d : ℕ) : Type 0 where
+pub record PairAsked (s t alone nothing blank pairs items : List ℕ) (e attributes texts a k : ℕ) (weak : Bool)
+    (d : ℕ) : Type 0 where
   pub strings : StringTable
   pub given : Given (tablesOf strings s t) alone nothing blank pairs items e attributes texts
   pub shown : Shown (tablesOf strings s t) items e attributes texts a k weak
@@ -114,7 +122,8 @@ pub record PairAsked (s t alone nothing blank pairs items : List ℕ) (e attribu
   pub row : d < rowsOf s
 
 -- the row of an element that its items stand for, for some strings
-pub record RowAsked (s t alone nothing blank pairs items : List ℕ) (e attributes texts a k : ℕ) (weak : Bool) : Type 0 where
+pub record RowAsked (s t alone nothing blank pairs items : List ℕ) (e attributes texts a k : ℕ)
+    (weak : Bool) : Type 0 where
   pub strings : StringTable
   pub ready : ElementReady (tablesOf strings s t) alone nothing blank pairs items e attributes texts a k weak
   pub element : isElement t e ≡ true

@@ -15,7 +15,8 @@ ghost use Rattle.sets.specs.Collecting.{Collects};
 ghost use Rattle.matching.specs.Setting.{Setting, Asked, Covered, Related, Relatable};
 ghost use Rattle.matching_marks.specs.Given.{Given};
 ghost use Rattle.matching_pairs.specs.Pairs.{IsPair, PairsRight, Pairable};
-ghost use Rattle.matching_pairs.specs.Rows.{Fits, Shown, ElementReady, RowRight, isSolid, Filling, StandsFor, Space, PairAsked, RowAsked, NodeAsked, TableAsked};
+ghost use Rattle.matching_pairs.specs.Rows.{Fits, Shown, ElementReady, RowRight, isSolid, Filling};
+ghost use Rattle.matching_pairs.specs.Rows.{StandsFor, Space, PairAsked, RowAsked, NodeAsked, TableAsked};
 
 // Whether the attributes a and all items of k, of the first n, match the pattern at row p.
 fn all_match(
@@ -405,7 +406,9 @@ fn pair_all(
     }
 }
 
-// The table of pairs of tables that pass.
+// The entry of instance row e and schema row d is 1 exactly where e is an element, d is a definition, and e has the
+// premises of (element), 9.3.7, for d. What another entry is instead of 1, and what stands past the rows that there
+// are, is left open. The caller shows that the tables pass, and that there is room for 1,024 rows of 512 entries.
 pub fn pair_table(bytes: &[u8], ends: &[u32], schema: &[u32], instance: &[u32], pairs: &mut [u8])
     requires { ⌜ Pairable (tablesOf (stringTable (now bytes) (now ends)) (now schema) (now instance)) (now pairs) ⌝ }
     ensures { λ _.

@@ -17,7 +17,7 @@ use Rattle.instance.specs.Elements.{isElement, childrenOf}
 use Rattle.matching_rules.specs.Items.{Item, element, string, noAttributes, Lookups}
 use Rattle.matching_rules.specs.Rules.{Matches, Proved}
 
--- datatypeEqual of 9.3.9 by document 01's numbers: 0 is string, 1 token
+-- datatypeEqual of 9.3.9 by the numbers of FORMAT, "Schema rows": 0 is string, 1 token
 abbrev pub datatypeEqual : ℕ → List ℕ → List ℕ → Type 0
 datatypeEqual zero s₁ s₂ = stringEqual s₁ s₂
 datatypeEqual (suc n) s₁ s₂ = tokenEqual s₁ s₂
@@ -57,6 +57,7 @@ module _ (J : Tables) where
   abbrev pub Valid : Type 0
   Valid = Matches lookups noAttributes (element 0 ∷ []) (patternOf (J .schema) (schema.aOf (J .schema) startRow))
 
-  -- the start names a definition when a ref row below start points to it
+  -- the definitions that the start names: those that refs below the row of start refer to
   pub data StartNames (d : ℕ) : Type 0 where
-    by-ref : (r : ℕ) → Below (J .schema) r startRow → schema.kindOf (J .schema) r ≡ kind.ref → schema.aOf (J .schema) r ≡ d → StartNames d
+    by-ref : (r : ℕ) → Below (J .schema) r startRow → schema.kindOf (J .schema) r ≡ kind.ref
+        → schema.aOf (J .schema) r ≡ d → StartNames d

@@ -20,7 +20,7 @@ pub record Lists (P : ℕ → ℕ → Type 0) (l : List (ℕ × ℕ)) : Type 0 w
   pub sound : (e d : ℕ) → List·Memᴰ (e, d) l → P e d
   pub complete : (e d : ℕ) → P e d → List·Memᴰ (e, d) l
 
--- the two words of each pair, in order
+-- pair by pair its first number, then its second
 unfoldable pub pairWords : List (ℕ × ℕ) → List ℕ
 pairWords [] = []
 pairWords (x ∷ l) = x .0 ∷ x .1 ∷ pairWords l

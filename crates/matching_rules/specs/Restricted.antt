@@ -3,9 +3,11 @@ use Prim.Native.Nat.{ℕ, _≤_, _<_}
 use mathlib.Core.Path.{_≡_}
 use mathlib.Core.Bool.{Bool, true}
 use mathlib.Core.List.{List}
-use Rattle.schema.specs.Views.{Pattern, empty, notAllowed, dataAll, dataExcept, value, list, ref, oneOrMore, choice, group, interleave, noPattern}
+use Rattle.schema.specs.Views.{Pattern, empty, notAllowed, dataAll, dataExcept, value}
+use Rattle.schema.specs.Views.{list, ref, oneOrMore, choice, group, interleave, noPattern}
 use Rattle.matching_rules.specs.Items.{Item, Lookups}
-use Rattle.matching_rules.specs.Reach.{Subpattern, Reaches, Within, isSharing, isSimple, takesAny, namesAttribute, takes}
+use Rattle.matching_rules.specs.Reach.{Subpattern, Reaches, Within, isSharing}
+use Rattle.matching_rules.specs.Reach.{isSimple, takesAny, namesAttribute, takes}
 
 module _ (L : Lookups) where
   -- what may stand in an except (10.2.5)
@@ -38,7 +40,8 @@ module _ (L : Lookups) where
 
   -- no attribute name on both sides of a group or interleave (10.4)
   abbrev pub NamesApart : ℕ → ℕ → Type 0
-  NamesApart p₁ p₂ = (x : ℕ) → Reaches L (namesAttribute L x) (L .pattern p₁) → ¬ Reaches L (namesAttribute L x) (L .pattern p₂)
+  NamesApart p₁ p₂ =
+      (x : ℕ) → Reaches L (namesAttribute L x) (L .pattern p₁) → ¬ Reaches L (namesAttribute L x) (L .pattern p₂)
 
   -- where a pattern of content type simple stands on one side, no item can go to the other (10.3)
   pub record Sequenced (p₁ p₂ : ℕ) : Type 0 where
@@ -58,7 +61,8 @@ module _ (L : Lookups) where
     pub groups : (p p₁ p₂ : ℕ) → L .pattern p ≡ group p₁ p₂ → NamesApart p₁ p₂
     pub interleaves : (p p₁ p₂ : ℕ) → L .pattern p ≡ interleave p₁ p₂ → NamesApart p₁ p₂
     -- 10.5: no item can go to either side of an interleave
-    pub items : (p p₁ p₂ : ℕ) → L .pattern p ≡ interleave p₁ p₂ → (y : Item) → Reaches L (takes L y) (L .pattern p₁) → ¬ Reaches L (takes L y) (L .pattern p₂)
+    pub items : (p p₁ p₂ : ℕ) → L .pattern p ≡ interleave p₁ p₂ → (y : Item) → Reaches L (takes L y) (L .pattern p₁)
+        → ¬ Reaches L (takes L y) (L .pattern p₂)
     pub repeats-flat : (p q : ℕ) → L .pattern p ≡ oneOrMore q → Flat (L .pattern q)
     pub excepts : (p t q : ℕ) → L .pattern p ≡ dataExcept t q → Plain (L .pattern q)
     pub lists : (p q : ℕ) → L .pattern p ≡ list q → Listable (L .pattern q)

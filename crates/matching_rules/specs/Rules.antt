@@ -20,7 +20,8 @@ pub data OkAsChildren : List Item → Type 0 where
   ok-empty : OkAsChildren []
   ok-element : {e : ℕ} {m : List Item} → OkAsChildren m → OkAsChildren (item.element e ∷ m)
   ok-last : {c : ℕ} {s : List ℕ} → OkAsChildren (string (c ∷ s) ∷ [])
-  ok-string : {c e : ℕ} {s : List ℕ} {m : List Item} → OkAsChildren m → OkAsChildren (string (c ∷ s) ∷ item.element e ∷ m)
+  ok-string : {c e : ℕ} {s : List ℕ} {m : List Item} → OkAsChildren m
+      → OkAsChildren (string (c ∷ s) ∷ item.element e ∷ m)
 
 module _ (L : Lookups) where
   -- ws (4.2.1): the empty sequence, or a string that consists entirely of whitespace
@@ -38,29 +39,43 @@ module _ (L : Lookups) where
       -- a; m =~ p
       pub data Match : Attributes → List Item → Pattern → Type 0 where
         -- 9.3.1
-        choice-1 : {a : Attributes} {m : List Item} {p₁ p₂ : ℕ} → Match a m (L .pattern p₁) → Match a m (pattern.choice p₁ p₂)
-        choice-2 : {a : Attributes} {m : List Item} {p₁ p₂ : ℕ} → Match a m (L .pattern p₂) → Match a m (pattern.choice p₁ p₂)
+        choice-1 : {a : Attributes} {m : List Item} {p₁ p₂ : ℕ} → Match a m (L .pattern p₁)
+            → Match a m (pattern.choice p₁ p₂)
+        choice-2 : {a : Attributes} {m : List Item} {p₁ p₂ : ℕ} → Match a m (L .pattern p₂)
+            → Match a m (pattern.choice p₁ p₂)
         -- 9.3.2
-        group : {a₁ a₂ : Attributes} {m₁ m₂ : List Item} {p₁ p₂ : ℕ} → Match a₁ m₁ (L .pattern p₁) → Match a₂ m₂ (L .pattern p₂) → Match (a₁ ∪ a₂) (m₁ ++ m₂) (pattern.group p₁ p₂)
+        group : {a₁ a₂ : Attributes} {m₁ m₂ : List Item} {p₁ p₂ : ℕ} → Match a₁ m₁ (L .pattern p₁)
+            → Match a₂ m₂ (L .pattern p₂) → Match (a₁ ∪ a₂) (m₁ ++ m₂) (pattern.group p₁ p₂)
         -- 9.3.3
         empty : Match noAttributes [] pattern.empty
         -- 9.3.4
         text-1 : Match noAttributes [] pattern.text
-        text-2 : {m : List Item} (s : List ℕ) → Match noAttributes m pattern.text → Match noAttributes (m ++ (string s ∷ [])) pattern.text
+        text-2 : {m : List Item} (s : List ℕ) → Match noAttributes m pattern.text
+            → Match noAttributes (m ++ (string s ∷ [])) pattern.text
         -- 9.3.5
-        oneOrMore-1 : {a : Attributes} {m : List Item} {p : ℕ} → Match a m (L .pattern p) → Match a m (pattern.oneOrMore p)
-        oneOrMore-2 : {a₁ a₂ : Attributes} {m₁ m₂ : List Item} {p : ℕ} → Match a₁ m₁ (L .pattern p) → Match a₂ m₂ (pattern.oneOrMore p) → Disjoint a₁ a₂ → Match (a₁ ∪ a₂) (m₁ ++ m₂) (pattern.oneOrMore p)
+        oneOrMore-1 : {a : Attributes} {m : List Item} {p : ℕ} → Match a m (L .pattern p)
+            → Match a m (pattern.oneOrMore p)
+        oneOrMore-2 : {a₁ a₂ : Attributes} {m₁ m₂ : List Item} {p : ℕ} → Match a₁ m₁ (L .pattern p)
+            → Match a₂ m₂ (pattern.oneOrMore p) → Disjoint a₁ a₂ → Match (a₁ ∪ a₂) (m₁ ++ m₂) (pattern.oneOrMore p)
         -- 9.3.6
-        interleave : {a₁ a₂ : Attributes} {m₁ m₂ m₃ : List Item} {p₁ p₂ : ℕ} → Match a₁ m₁ (L .pattern p₁) → Match a₂ m₂ (L .pattern p₂) → Interleaves m₃ m₁ m₂ → Match (a₁ ∪ a₂) m₃ (pattern.interleave p₁ p₂)
+        interleave : {a₁ a₂ : Attributes} {m₁ m₂ m₃ : List Item} {p₁ p₂ : ℕ} → Match a₁ m₁ (L .pattern p₁)
+            → Match a₂ m₂ (L .pattern p₂) → Interleaves m₃ m₁ m₂ → Match (a₁ ∪ a₂) m₃ (pattern.interleave p₁ p₂)
         -- 9.3.7
-        attribute : {nc p : ℕ} (x : ℕ) → L .inClass nc x ≡ true → WeakMatch noAttributes (string (L .value x) ∷ []) (L .pattern p) → Match (only x) [] (pattern.attribute nc p)
-        element : {d : ℕ} (e : ℕ) {ws₁ ws₂ : List Item} → L .isDefinition d ≡ true → OkAsChildren (L .children e) → L .inClass (L .nameClass d) e ≡ true → WeakMatch (L .attributes e) (L .children e) (L .pattern (L .content d)) → Ws ws₁ → Ws ws₂ → Match noAttributes (ws₁ ++ item.element e ∷ ws₂) (pattern.ref d)
+        attribute : {nc p : ℕ} (x : ℕ) → L .inClass nc x ≡ true
+            → WeakMatch noAttributes (string (L .value x) ∷ []) (L .pattern p)
+            → Match (only x) [] (pattern.attribute nc p)
+        element : {d : ℕ} (e : ℕ) {ws₁ ws₂ : List Item} → L .isDefinition d ≡ true → OkAsChildren (L .children e)
+            → L .inClass (L .nameClass d) e ≡ true
+            → WeakMatch (L .attributes e) (L .children e) (L .pattern (L .content d)) → Ws ws₁ → Ws ws₂
+            → Match noAttributes (ws₁ ++ item.element e ∷ ws₂) (pattern.ref d)
         -- 9.3.8; both datatypes allow every string
-        value : {t k : ℕ} {s : List ℕ} → L .Equal t s (L .text k) → Match noAttributes (string s ∷ []) (pattern.value t k)
+        value : {t k : ℕ} {s : List ℕ} → L .Equal t s (L .text k)
+            → Match noAttributes (string s ∷ []) (pattern.value t k)
         data-1 : {t : ℕ} {s : List ℕ} → Match noAttributes (string s ∷ []) (pattern.dataAll t)
         data-2 : {t p : ℕ} {s : List ℕ} → NotMatch s p → Match noAttributes (string s ∷ []) (pattern.dataExcept t p)
         -- 9.3.10: the tokens of the string, as a sequence of strings
-        list : {p : ℕ} {s : List ℕ} → Match noAttributes (map string (L .split s)) (L .pattern p) → Match noAttributes (string s ∷ []) (pattern.list p)
+        list : {p : ℕ} {s : List ℕ} → Match noAttributes (map string (L .split s)) (L .pattern p)
+            → Match noAttributes (string s ∷ []) (pattern.list p)
 
       -- a; m =~weak p (9.3.7)
       pub data WeakMatch : Attributes → List Item → Pattern → Type 0 where
@@ -79,6 +94,6 @@ module _ (L : Lookups) where
   abbrev pub Matches : Attributes → List Item → Pattern → Type 0
   Matches = Match (NotMatchBy (L .rows))
 
-  -- an element as a sequence of that child alone, with no attributes beside it, matches a ref to the definition
+  -- the sequence whose only member is element e, with the empty set of attributes, matches a ref to definition d
   abbrev pub Proved : ℕ → ℕ → Type 0
   Proved e d = Matches noAttributes (item.element e ∷ []) (pattern.ref d)

@@ -22,7 +22,8 @@ module _ {A : Type 0} where
 module _ (L : Lookups) where
   -- no string of whitespace stands beside an element at the positions of a set
   abbrev pub CleanAt : (ℕ → Item) → (ℕ → Bool) → Type 0
-  CleanAt it K = (h k e : ℕ) (s : List ℕ) → K h ≡ true → it h ≡ element e → K k ≡ true → it k ≡ string s → L .whitespace s ≡ false
+  CleanAt it K =
+      (h k e : ℕ) (s : List ℕ) → K h ≡ true → it h ≡ element e → K k ≡ true → it k ≡ string s → L .whitespace s ≡ false
 
   -- no two attributes of a set have one name
   abbrev pub Distinct : Attributes → Type 0

@@ -15,7 +15,8 @@ use Rattle.schema_restrictions.specs.Schema.{SchemaPasses}
 use Rattle.matching_rules.specs.Rules.{NotMatchBy}
 use Rattle.matching_rules.specs.Job.{lookups}
 use Rattle.matching_rules.specs.Restricted.{Plain}
-use Rattle.matching_tokens.specs.Marked.{Tree, empty, leaf, oneOrMore, choice, group, rowOf, TakesRight, Shows, In, Apart, Proper, nullable, Read, read, second, again, done}
+use Rattle.matching_tokens.specs.Marked.{Tree, empty, leaf, oneOrMore, choice, group, rowOf, TakesRight}
+use Rattle.matching_tokens.specs.Marked.{Shows, In, Apart, Proper, nullable, Read, read, second, again, done}
 use Rattle.matching_tokens.specs.Tokens.{TokenPlaces}
 
 module _ (T : StringTable) (s : List ℕ) where
@@ -34,7 +35,8 @@ module _ (T : StringTable) (s : List ℕ) where
   ShowsAt t r p = Shows (lookups (tablesOf T s t)) (NotMatchBy (lookups (tablesOf T s t)) (rowsOf s)) r p
 
   abbrev pub TakesAt : (t : List ℕ) → ℕ → (List ℕ → Bool) → Type 0
-  TakesAt t r takes = TakesRight (lookups (tablesOf T s t)) (NotMatchBy (lookups (tablesOf T s t)) (rowsOf s)) takes (patternOf s r)
+  TakesAt t r takes =
+      TakesRight (lookups (tablesOf T s t)) (NotMatchBy (lookups (tablesOf T s t)) (rowsOf s)) takes (patternOf s r)
 
 -- a byte a row: 1 is a mark
 abbrev pub mark : Bool → ℕ
@@ -54,7 +56,8 @@ HoldsMarks marks (empty r) h = Slot marks (empty r) h
 HoldsMarks marks (leaf r takes) h = Slot marks (leaf r takes) h
 HoldsMarks marks (oneOrMore r p) h = Slot marks (oneOrMore r p) h × HoldsMarks marks p (again (done p) h)
 HoldsMarks marks (choice r p q) h = Slot marks (choice r p q) h × HoldsMarks marks p h × HoldsMarks marks q h
-HoldsMarks marks (group r p q) h = Slot marks (group r p q) h × HoldsMarks marks p h × HoldsMarks marks q (second (nullable p) (done p) h)
+HoldsMarks marks (group r p q) h =
+    Slot marks (group r p q) h × HoldsMarks marks p h × HoldsMarks marks q (second (nullable p) (done p) h)
 
 -- after one more token: the answer is the tree's mark, the table has the marks of its rows, and others are as before
 pub record Stepped (p : Tree) (h : List Read) (before after : List ℕ) (answer : Bool) : Type 0 where
@@ -66,10 +69,12 @@ pub record Stepped (p : Tree) (h : List Read) (before after : List ℕ) (answer 
 -- what a token does at a row, entered before it or not, whatever was read before
 abbrev pub Steps : (T : StringTable) (s : List ℕ) (row : ℕ) (enter : Bool) (token before after : List ℕ) → Bool → Type 0
 Steps T s row enter token before after answer =
-    (t : List ℕ) (p : Tree) (h : List Read) → ShowsAt T s t row p → Proper p → HoldsMarks before p h → Stepped p (read enter token ∷ h) before after answer
+    (t : List ℕ) (p : Tree) (h : List Read) → ShowsAt T s t row p → Proper p → HoldsMarks before p h
+    → Stepped p (read enter token ∷ h) before after answer
 
 -- the parts of a row of two parts, before a token
-pub record TwoParts (T : StringTable) (s t : List ℕ) (row : ℕ) (p q : Tree) (h k : List Read) (before : List ℕ) : Type 0 where
+pub record TwoParts (T : StringTable) (s t : List ℕ) (row : ℕ) (p q : Tree) (h k : List Read)
+    (before : List ℕ) : Type 0 where
   pub room : row < length before
   pub shows-a : ShowsAt T s t (aOf s row) p
   pub shows-b : ShowsAt T s t (bOf s row) q
@@ -80,7 +85,8 @@ pub record TwoParts (T : StringTable) (s t : List ℕ) (row : ℕ) (p q : Tree) 
   pub holds-b : HoldsMarks before q k
 
 -- after it: the row is marked where the second part is, or the first is and may be the last
-pub record TwoStepped (row : ℕ) (p q : Tree) (h k : List Read) (last : Bool) (before after : List ℕ) (answer : Bool) : Type 0 where
+pub record TwoStepped (row : ℕ) (p q : Tree) (h k : List Read) (last : Bool) (before after : List ℕ)
+    (answer : Bool) : Type 0 where
   pub right : answer ≡ (done p h && last || done q k)
   pub size : length after ≡ length before
   pub own : marked after row ≡ answer
@@ -88,12 +94,14 @@ pub record TwoStepped (row : ℕ) (p q : Tree) (h k : List Read) (last : Bool) (
   pub then : HoldsMarks after q k
   pub kept : (i : ℕ) → ¬ (i ≡ row) → ¬ In i p → ¬ In i q → marked after i ≡ marked before i
 
-abbrev pub TwoSteps : (T : StringTable) (s : List ℕ) (row : ℕ) (enter onward last : Bool) (token before after : List ℕ) → Bool → Type 0
+abbrev pub TwoSteps : (T : StringTable) (s : List ℕ) (row : ℕ) (enter onward last : Bool)
+    (token before after : List ℕ) → Bool → Type 0
 TwoSteps T s row enter onward last token before after answer =
     (t : List ℕ) (p q : Tree) (h k : List Read) → TwoParts T s t row p q h k before
     → TwoStepped row p q (read enter token ∷ h) (read onward token ∷ k) last before after answer
 
 -- a leaf takes the token where it is entered, and its mark is stored
-pub record LeafSteps (T : StringTable) (s : List ℕ) (row : ℕ) (enter : Bool) (token before after : List ℕ) (answer : Bool) : Type 0 where
+pub record LeafSteps (T : StringTable) (s : List ℕ) (row : ℕ) (enter : Bool) (token before after : List ℕ)
+    (answer : Bool) : Type 0 where
   pub stored : after ≡ set before row (mark answer)
   pub told : (t : List ℕ) (takes : List ℕ → Bool) → TakesAt T s t row takes → answer ≡ (enter && takes token)

@@ -49,10 +49,14 @@ module _ (L : Lookups) (NotMatch : List ℕ → ℕ → Type 0) where
   -- row r shows the tree; parts are at smaller rows
   pub data Shows : ℕ → Tree → Type 0 where
     shows-empty : {r : ℕ} → L .pattern r ≡ pattern.empty → Shows r (empty r)
-    shows-leaf : {r : ℕ} {takes : List ℕ → Bool} → isData (L .pattern r) ≡ true → TakesRight takes (L .pattern r) → Shows r (leaf r takes)
-    shows-oneOrMore : {r a : ℕ} {p : Tree} → L .pattern r ≡ pattern.oneOrMore a → a < r → Shows a p → Shows r (oneOrMore r p)
-    shows-choice : {r a b : ℕ} {p q : Tree} → L .pattern r ≡ pattern.choice a b → a < r → b < r → Shows a p → Shows b q → Shows r (choice r p q)
-    shows-group : {r a b : ℕ} {p q : Tree} → L .pattern r ≡ pattern.group a b → a < r → b < r → Shows a p → Shows b q → Shows r (group r p q)
+    shows-leaf : {r : ℕ} {takes : List ℕ → Bool} → isData (L .pattern r) ≡ true → TakesRight takes (L .pattern r)
+        → Shows r (leaf r takes)
+    shows-oneOrMore : {r a : ℕ} {p : Tree} → L .pattern r ≡ pattern.oneOrMore a → a < r → Shows a p
+        → Shows r (oneOrMore r p)
+    shows-choice : {r a b : ℕ} {p q : Tree} → L .pattern r ≡ pattern.choice a b → a < r → b < r → Shows a p → Shows b q
+        → Shows r (choice r p q)
+    shows-group : {r a b : ℕ} {p q : Tree} → L .pattern r ≡ pattern.group a b → a < r → b < r → Shows a p → Shows b q
+        → Shows r (group r p q)
 
 -- i is a row of the tree
 pub data In (i : ℕ) : Tree → Type 0 where

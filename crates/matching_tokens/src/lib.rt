@@ -13,7 +13,8 @@ ghost use Rattle.schema.specs.Rows.{kindOf, aOf, bOf};
 ghost use Rattle.matching_rules.specs.Items.{string};
 ghost use Rattle.matching_rules.specs.Job.{datatypeEqual};
 ghost use Rattle.matching_tokens.specs.MarkTable.{TokenReady, PlainAt, mark, marked, LeafSteps, Steps, TwoSteps};
-ghost use Rattle.matching_tokens.specs.Tokens.{OneToken, TokenPlaces, PlaceRoom, DecidesAt, NothingUpTo, ListReady, TokensMatch};
+ghost use Rattle.matching_tokens.specs.Tokens.{OneToken, TokenPlaces, PlaceRoom, DecidesAt};
+ghost use Rattle.matching_tokens.specs.Tokens.{NothingUpTo, ListReady, TokensMatch};
 
 // Where a part of a text begins and ends.
 struct Stretch {
@@ -35,8 +36,9 @@ fn one_token(text: &[u8]) -> Stretch
     Stretch { from, to }
 }
 
-// For each string, at two words of places, where its one token begins and ends in its text; an empty stretch where it
-// has none, or more than one.
+// For each string, at two words of places, a part of its text that is a token exactly where that is the one token of
+// the text. Which empty part stands for no token or several, and what stands past the words of the strings, is left
+// open. The caller shows that there are at most 16,384 bytes, and two words for each string.
 pub fn find_tokens(bytes: &[u8], ends: &[u32], places: &mut [u32])
     requires { ⌜ PlaceRoom (stringTable (now bytes) (now ends)) (now places) ⌝ }
     ensures { λ _. ⌜ TokenPlaces (stringTable (now (bytes .entry)) (now (ends .entry))) (now (places .exit)) ⌝ }
@@ -311,7 +313,9 @@ fn step(
     }
 }
 
-// Whether the tokens of a text match the pattern at row p. The pattern is entered before the first token.
+// Yes exactly when the tokens of a text, as a sequence of strings with no attributes, match the pattern at row p,
+// whatever the instance is. The caller shows that the schema passes, that the pattern may stand in a list, where the
+// tokens of values are, and which patterns up to the row match nothing. The pattern is entered before the first token.
 pub fn tokens_match(
     bytes: &[u8],
     ends: &[u32],

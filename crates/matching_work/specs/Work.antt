@@ -1,4 +1,4 @@
--- The room that matching asks of the lent work buffer: request 8/13, what it adds to code 12.
+-- The room that matching asks of the lent work buffer (FORMAT, "Calls and outputs").
 use Prim.Native.Nat.{ℕ, zero, suc, _+_, _*_, _<_, max}
 use mathlib.Core.Path.{_≡_}
 use mathlib.Core.Bool.{cond}
@@ -11,7 +11,7 @@ use Rattle.schema.specs.Kinds as kind
 use Rattle.schema.specs.Rows as row
 use Rattle.instance.specs.Nodes.{attribute, text, nodesOf, kindOf, aOf, cOf}
 
--- the schema has a kind 6 row
+-- some row of the schema is a list
 abbrev pub HasList : List ℕ → Type 0
 HasList s = (p : ℕ) × (row.kindOf s p ≡ kind.list)
 
@@ -21,16 +21,16 @@ valueLength J r =
     cond (eqb (kindOf (J .instance) r) attribute) (length (textOf (J .strings) (cOf (J .instance) r)))
     (cond (eqb (kindOf (J .instance) r) text) (length (textOf (J .strings) (aOf (J .instance) r))) 0)
 
--- the length of the longest attribute value or text before row n of the instance, 0 if there is none
+-- the greatest of these lengths over the rows before row n of the instance, 0 over no rows
 unfoldable pub longestBefore : Tables → ℕ → ℕ
 longestBefore J zero = 0
 longestBefore J (suc n) = max (longestBefore J n) (valueLength J n)
 
--- the length of the longest attribute value or text, 0 if there is none
+-- the greatest over the whole instance
 abbrev pub longest : Tables → ℕ
 longest J = longestBefore J (nodesOf (J .instance))
 
--- the schema has a kind 6 row, and the room is fewer bytes than three times that length plus three
+-- there is a list, and the room is short of three bytes for each byte of that length, and three more
 abbrev pub WorkTooShort : Tables → ℕ → Type 0
 WorkTooShort J room = HasList (J .schema) × (room < 3 * longest J + 3)
 

@@ -52,7 +52,7 @@ fn larger(m: usize, n: usize) -> usize
     if m < n { n } else { m }
 }
 
-// The length of the longest attribute value or text, 0 if there is none, whatever the schema is.
+// How long the longest attribute value or text of the instance is, whatever the schema is; 0 where it has neither.
 fn longest(bytes: &[u8], ends: &[u32], instance: &[u32]) -> usize
     requires { ⌜ nodesOf (now instance) ≤ maxNodes ⌝ }
     ensures { λ r. ⌜ ((s : List ℕ) → r ≡ longest (tablesOf (stringTable (now (bytes .entry)) (now (ends .entry))) s (now (instance .entry)))) ⌝ }
@@ -80,7 +80,9 @@ fn is_short(bytes: &[u8], ends: &[u32], schema: &[u32], instance: &[u32], lent: 
     lent / 3 <= longest(bytes, ends, instance)
 }
 
-// Code 12 for the work buffer: a fault at 0 where so many bytes are too few.
+// Code 12 for the work buffer: a fault, at 0, exactly when the schema has a list and fewer bytes are lent than 3 n + 3,
+// n being the length of the longest attribute value or text of the instance, 0 without any. The caller shows that there
+// are at most 512 schema rows and 1,024 instance rows.
 pub fn check_work(
     bytes: &[u8],
     ends: &[u32],

@@ -6,9 +6,10 @@ ghost use Prim.Native.Nat.{_+_, _^_, _<_};
 ghost use lib.Bits.{bitOr};
 ghost use Rattle.sets.specs.Bits.{positions, bit};
 ghost use Rattle.relations.specs.Relations.{Or, And, Then, Plus};
-ghost use Rattle.relations.specs.Words.{WordsRelate, Is, Image, front, next, WordRoom, Rest, Up, Empty, Gap, Single};
+ghost use Rattle.relations.specs.Words.{WordsRelate, Is, Image, front, next};
+ghost use Rattle.relations.specs.Words.{WordRoom, Rest, Up, Empty, Gap, Single};
 
-// The union of the words of b at the members of s.
+// The union of the words of b at the members of s, where a word past the end is empty.
 pub fn image(s: u64, b: &[u64]) -> u64
     ensures { λ r. ⌜ Image s (now (b .entry)) r ⌝ }
 {
@@ -21,7 +22,7 @@ pub fn image(s: u64, b: &[u64]) -> u64
     out
 }
 
-// The empty relation.
+// The first m words hold the empty relation; the words after them are as they were.
 pub fn clear(m: u32, w: &mut [u64])
     requires { ⌜ WordRoom m m (now w) ⌝ }
     ensures { λ _. ⌜ Is (front m (now (w .exit))) Empty ⌝ }
@@ -45,7 +46,7 @@ fn gap_word(stop: u64, i: u32, after: u64) -> u64
     after | 1u64 << i
 }
 
-// The pairs i, j with no position of stop in [i, j).
+// The first m words hold the pairs i ≤ j < m with no position of stop in [i, j); the words after them are as they were.
 pub fn gaps(m: u32, stop: u64, w: &mut [u64])
     requires { ⌜ WordRoom m m (now w) ⌝ }
     ensures { λ _. ⌜ Is (front m (now (w .exit))) (Gap m stop) ⌝ }
@@ -73,7 +74,8 @@ fn single_word(all: u64, marked: u64, i: u32, gap: u64, single: u64) -> u64
     single
 }
 
-// The pairs i, j with exactly one position of all in [i, j), a marked one.
+// The first m words hold the pairs i, j < m with exactly one position of all in [i, j), a marked one; the words after
+// them are as they were.
 pub fn singles(m: u32, all: u64, marked: u64, w: &mut [u64])
     requires { ⌜ WordRoom m m (now w) ⌝ }
     ensures { λ _. ⌜ Is (front m (now (w .exit))) (Single m all marked) ⌝ }
@@ -90,7 +92,7 @@ pub fn singles(m: u32, all: u64, marked: u64, w: &mut [u64])
     }
 }
 
-// The first relation or the next.
+// The first m words hold the pairs of the first relation or the next; the words after them are as they were.
 pub fn union(m: u32, w: &mut [u64])
     requires { ⌜ WordRoom m (positions + m) (now w) ⌝ }
     ensures { λ _. ⌜ Is (front m (now (w .exit))) (Or (WordsRelate (front m (now (w .entry)))) (WordsRelate (next m (now (w .entry))))) ⌝ }
@@ -103,7 +105,7 @@ pub fn union(m: u32, w: &mut [u64])
     }
 }
 
-// The first relation and the next, of the same pairs.
+// The first m words hold the pairs of both relations; the words after them are as they were.
 pub fn meet(m: u32, w: &mut [u64])
     requires { ⌜ WordRoom m (positions + m) (now w) ⌝ }
     ensures { λ _. ⌜ Is (front m (now (w .exit))) (And (WordsRelate (front m (now (w .entry)))) (WordsRelate (next m (now (w .entry))))) ⌝ }
@@ -116,7 +118,7 @@ pub fn meet(m: u32, w: &mut [u64])
     }
 }
 
-// The first relation, then the next.
+// The first m words hold a step of the first relation, then one of the next; the words after them are as they were.
 pub fn compose(m: u32, w: &mut [u64])
     requires { ⌜ WordRoom m (positions + m) (now w) ⌝ }
     ensures { λ _. ⌜ Is (front m (now (w .exit))) (Then (WordsRelate (front m (now (w .entry)))) (WordsRelate (next m (now (w .entry))))) ⌝ }
@@ -131,7 +133,8 @@ pub fn compose(m: u32, w: &mut [u64])
     }
 }
 
-// One or more steps of a relation that goes up: the words after i are closed before word i is.
+// The first m words hold one or more steps of a relation that goes up, as the caller shows; the words after them are as
+// they were. The words after i are closed before word i is.
 pub fn close(m: u32, w: &mut [u64])
     requires { ⌜ WordRoom m m (now w) × Up (WordsRelate (front m (now w))) ⌝ }
     ensures { λ _. ⌜ Is (front m (now (w .exit))) (Plus (WordsRelate (front m (now (w .entry))))) ⌝ }

@@ -1,4 +1,4 @@
--- What each case of an answer says, by document 01's numbers: of refusal, as a verdict, whose code and place are
+-- What each case of an answer says (FORMAT, "Calls and outputs"): of refusal, as a verdict, whose code and place are
 -- `codeOf` and `placeOf` of it, 0 and 0 where nothing is refused; yes or no; the name or none; the number of pairs.
 use Prim.Native.Nat.{ℕ}
 use mathlib.Core.Bool.{Bool, true, false}

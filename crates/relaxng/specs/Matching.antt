@@ -22,7 +22,9 @@ use Rattle.relaxng.specs.declared.MatchAnswer.{MatchAnswer}
 
 -- codes 1 to 10, and after them what next says
 abbrev pub InstanceRefusal : Tables → (Verdict → Type 0) → Verdict → Type 0
-InstanceRefusal J next = SchemaRefusal (J .strings) (J .schema) (Tries 9 (NodeFault (instanceStrings (J .strings)) (J .instance)) (Tries 10 (WidthFault (J .instance)) next))
+InstanceRefusal J next =
+    SchemaRefusal (J .strings) (J .schema)
+    (Tries 9 (NodeFault (instanceStrings (J .strings)) (J .instance)) (Tries 10 (WidthFault (J .instance)) next))
 
 -- codes 1 to 10, then 12 for so many bytes of work
 abbrev pub WorkRefusal : (J : Tables) (work : ℕ) → Verdict → Type 0
@@ -35,7 +37,7 @@ pub record GivesVerdict (J : Tables) (work : ℕ) (after : List ℕ) (r : Valida
   pub answer : Decides ((codeOf (validationVerdict r) ≡ 0) × Valid J) (isValid r)
   pub cleared : after ≡ zeros work
 
--- code 12: twice the number of pairs is more than the words lent
+-- code 12 at 0: the pairs of the match list, at two words each, need more words than the list has
 abbrev pub ListTooShort : (J : Tables) (room place : ℕ) → Type 0
 ListTooShort J room place = (place ≡ 0) × (l : List (ℕ × ℕ)) × MatchList J l × (room < length l * 2)
 

@@ -1,5 +1,5 @@
 -- A job that is written reads back the same: what write_job lays in its output, read_job gives as the same four tables
--- (document 01, "The job file").
+-- (FORMAT, "Job file").
 use Prim.Native.Nat.{ℕ, _≤_}
 use mathlib.Core.Path.{_≡_}
 use mathlib.Core.List.{List}
@@ -36,10 +36,12 @@ pub record ReadsJob (file : List ℕ) (room : Room) (bytes ends schema instance 
 
 -- the answer gives the sizes of the tables of J, and each output holds its table to its end
 pub record ReadsBack (J : Tables) (room : Room) (bytes ends schema instance : List ℕ) (r : JobRead) : Type 0 where
-  pub answer : r ≡ Read (length (J .strings .bytes)) (length (J .strings .ends)) (rowsOf (J .schema)) (nodesOf (J .instance))
+  pub answer : r ≡ Read (length (J .strings .bytes)) (length (J .strings .ends))
+      (rowsOf (J .schema)) (nodesOf (J .instance))
   pub outputs : OutputsHold J room bytes ends schema instance
 
 -- the n bytes that were written of J are read
 abbrev pub RoundTrip : Tables → Type 0
 RoundTrip J = (size n : ℕ) (out : List ℕ) → MachineWords J → WriteJob J size out (Written n)
-    → (room : Room) (bytes ends schema instance : List ℕ) (r : JobRead) → LongEnough J room → ReadsJob (take n out) room bytes ends schema instance r → ReadsBack J room bytes ends schema instance r
+    → (room : Room) (bytes ends schema instance : List ℕ) (r : JobRead) → LongEnough J room
+    → ReadsJob (take n out) room bytes ends schema instance r → ReadsBack J room bytes ends schema instance r

@@ -41,7 +41,8 @@ pub enum MatchAnswer {
     NotMatched(u32, u32),
 }
 
-// Whether a schema keeps the simple form and the restrictions: codes 1 to 8.
+// Whether a schema keeps the simple form and the restrictions: the first of codes 1 to 8 that has a fault, with its
+// smallest place; passed exactly when none has.
 pub fn schema_verdict(bytes: &[u8], ends: &[u32], schema: &[u32]) -> Verdict
     ensures { λ r. ⌜ SchemaRefusal (stringTable (now (bytes .entry)) (now (ends .entry))) (now (schema .entry)) Passes r ⌝ }
 {
@@ -52,7 +53,7 @@ pub fn schema_verdict(bytes: &[u8], ends: &[u32], schema: &[u32]) -> Verdict
     schema_restrictions::check_schema(ends.len(), schema)
 }
 
-// Whether a name is in the class at a row: codes 1 to 8, then 11.
+// Whether a name is in the class at a row: codes 1 to 8, then 11 at a row that is no name class.
 pub fn name_in_class(
     bytes: &[u8],
     ends: &[u32],
@@ -87,8 +88,8 @@ fn common_name(found: Found) -> CommonName
     }
 }
 
-// The least name that the classes at two rows have in common: codes 1 to 8, then 11 with the first row that is no
-// class.
+// The least name that the classes at two rows have in common, or none: codes 1 to 8, then 11 at the first row that is
+// no name class.
 pub fn least_common_name(
     bytes: &[u8],
     ends: &[u32],
@@ -188,7 +189,7 @@ fn matches_of(answer: Answer) -> MatchAnswer
 }
 
 // The match list, with the number of pairs and valid or not: codes 1 to 10, then 12 for the work buffer, which is left
-// with zeros, and for the list.
+// with zeros, and for the list, which is zeros throughout at a refusal and after the pairs.
 pub fn match_list(
     bytes: &[u8],
     ends: &[u32],

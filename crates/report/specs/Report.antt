@@ -1,4 +1,4 @@
--- What the program `check` prints for a job file (document 01, "The job file").
+-- What the program `check` prints for a job file (FORMAT, "Output").
 use Prim.Native.Nat.{ℕ, _*_}
 use mathlib.Core.Path.{_≡_}
 use mathlib.Core.Bool.{true, false}
@@ -29,7 +29,8 @@ answerText (NotMatched code place) list = refusalText code place
 -- the text of a job file: refused by 13 at its first wrong line, or the answer on the match list of its tables
 pub data Reports (file text : List ℕ) : Type 0 where
   not-read : (line : ℕ) → readJob file ≡ wrong line → text ≡ refusalText 13 line → Reports file text
-  answered : (t : Tables) (list after : List ℕ) (r : MatchAnswer) → readJob file ≡ read t → ListsMatches t listRoom workRoom list after r → text ≡ answerText r list → Reports file text
+  answered : (t : Tables) (list after : List ℕ) (r : MatchAnswer) → readJob file ≡ read t
+      → ListsMatches t listRoom workRoom list after r → text ≡ answerText r list → Reports file text
 
 -- an output of so many bytes holds that text, with zeros after it, and n is its length
 pub record Reported (file : List ℕ) (room : ℕ) (out : List ℕ) (n : ℕ) : Type 0 where

@@ -33,7 +33,7 @@ fn answer(bytes: &[u8], ends: &[u32], schema: &[u32], instance: &[u32], out: &mu
     }
 }
 
-// What `check` prints for a job file, and its length; nothing where the output is too short.
+// What `check` prints for a job file, with zeros after it, and its length; zeros and 0 where the output is too short.
 pub fn report(file: &[u8], out: &mut [u8]) -> u32
     ensures { λ n. ⌜ Reported (now (file .entry)) (length (now (out .entry))) (now (out .exit)) n ⌝ }
     ensures within { λ n. ⌜ n ≤ length (now (out .entry)) ⌝ }

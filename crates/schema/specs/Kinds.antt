@@ -1,7 +1,7 @@
--- The kinds of schema rows by their numbers in document 01, "Schema rows".
+-- The kinds of schema rows by their numbers in FORMAT, "Schema rows".
 use Prim.Native.Nat.{ℕ}
 
--- document 01's `-`: no row
+-- `-` of FORMAT, "Schema rows": no row
 abbrev pub noRow : ℕ
 noRow = 4294967295
 

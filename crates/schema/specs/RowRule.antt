@@ -1,4 +1,4 @@
--- The rule of schema rows, from document 01, "Schema rows", and code 2 of its table of codes.
+-- The rule of schema rows, from FORMAT, "Schema rows", and code 2 of FORMAT, "Codes and places".
 use Prim.Native.Nat.{ℕ, zero, suc, _+_, _<_, _%_}
 use mathlib.Core.Path.{_≡_}
 use mathlib.Core.Logic.{_≢_}
@@ -11,7 +11,8 @@ use Rattle.schema.specs.Rows.{rowsOf, kindOf, aOf, bOf, shapeOf, sortOf,
 use Rattle.schema.specs.declared.Sort.{Sort}
 use Rattle.schema.specs.declared.Sort.the-variants.{Pattern, NameClass, Element, Start, Bad}
 use Rattle.schema.specs.declared.Field.{Field}
-use Rattle.schema.specs.declared.Field.the-variants.{Unused, APattern, PatternOrNone, AClass, ClassOrNone, Definition, Datatype, StringNumber, Local}
+use Rattle.schema.specs.declared.Field.the-variants.{Unused, APattern, PatternOrNone, AClass, ClassOrNone}
+use Rattle.schema.specs.declared.Field.the-variants.{Definition, Datatype, StringNumber, Local}
 
 abbrev pub maxRows : ℕ
 maxRows = 512

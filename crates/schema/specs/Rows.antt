@@ -8,7 +8,8 @@ use Rattle.schema.specs.Kinds as kind
 use Rattle.schema.specs.declared.Sort.{Sort}
 use Rattle.schema.specs.declared.Sort.the-variants.{Pattern, NameClass, Element, Start, Bad}
 use Rattle.schema.specs.declared.Field.{Field}
-use Rattle.schema.specs.declared.Field.the-variants.{Unused, APattern, PatternOrNone, AClass, ClassOrNone, Definition, Datatype, StringNumber, Local}
+use Rattle.schema.specs.declared.Field.the-variants.{Unused, APattern, PatternOrNone, AClass, ClassOrNone}
+use Rattle.schema.specs.declared.Field.the-variants.{Definition, Datatype, StringNumber, Local}
 use Rattle.schema.specs.declared.Shape.{Shape}
 
 abbrev pub rowsOf : List ℕ → ℕ
@@ -27,7 +28,7 @@ bOf s r = getD s (r * 3 + 2) 0
 abbrev pub shape : Sort → Field → Field → Shape
 shape sort a b = record { sort = sort; a = a; b = b }
 
--- the table of kinds of document 01, "Schema rows"
+-- the table of kinds of FORMAT, "Schema rows"
 unfoldable pub shapeOf : ℕ → Shape
 shapeOf k =
     cond (leb kind.empty k && leb k kind.text) (shape Pattern Unused Unused)

@@ -6,17 +6,18 @@ ghost use mathlib.Core.Bool.{cond};
 ghost use Prim.Native.Nat.{_+_, _≤_, _<_};
 ghost use lib.ListN.{length, set, drop};
 ghost use Rattle.tables.specs.Answers.{Finds};
-ghost use Rattle.schema.specs.Rows.{rowsOf, kindOf, aOf, bOf, shape, shapeOf, sortOf, names, childA, childB, isPattern, isClass, isElement};
+ghost use Rattle.schema.specs.Rows.{rowsOf, kindOf, aOf, bOf, shape, shapeOf, sortOf};
+ghost use Rattle.schema.specs.Rows.{names, childA, childB, isPattern, isClass, isElement};
 ghost use Rattle.schema.specs.RowRule.{maxRows, fieldRight, SizeFault};
 ghost use Rattle.schema.specs.Definitions.{isDefinition, Definitions};
 ghost use Rattle.schema.specs.Marks.{markIf, childrenMarked};
 
 pub const MAX_ROWS: usize = 512;
 
-// Document 01's `-`: no row.
+// `-` of FORMAT, "Schema rows": no row.
 pub const NO_ROW: u32 = 4294967295;
 
-// The kinds of schema rows, by their numbers in document 01.
+// The kinds of schema rows, by their numbers in FORMAT, "Schema rows".
 pub const EMPTY: u32 = 1;
 
 pub const NOT_ALLOWED: u32 = 2;
@@ -83,18 +84,21 @@ pub struct Shape {
     pub b: Field,
 }
 
+// The first word of a row, its kind; 0 past the end.
 pub fn kind(schema: &[u32], row: u32) -> u32
     ensures { λ r. ⌜ r ≡ kindOf (now (schema .entry)) row ⌝ }
 {
     tables::word(schema, row as usize * 3)
 }
 
+// The second word of a row; 0 past the end.
 pub fn field_a(schema: &[u32], row: u32) -> u32
     ensures { λ r. ⌜ r ≡ aOf (now (schema .entry)) row ⌝ }
 {
     tables::word(schema, row as usize * 3 + 1)
 }
 
+// The third word of a row; 0 past the end.
 pub fn field_b(schema: &[u32], row: u32) -> u32
     ensures { λ r. ⌜ r ≡ bOf (now (schema .entry)) row ⌝ }
 {
@@ -107,7 +111,8 @@ fn made(sort: Sort, a: Field, b: Field) -> Shape
     Shape { sort, a, b }
 }
 
-// The number of words and rows.
+// The first fault of code 2 that is one of the whole table, at row 0: no row, more than 512, or words that are no whole
+// rows. `Fine` exactly when there is none.
 pub fn check_size(schema: &[u32]) -> Checked
     ensures { λ r. ⌜ Finds (SizeFault (now (schema .entry))) r ⌝ }
 {
@@ -190,7 +195,7 @@ fn is_element(sort: Sort) -> bool
     }
 }
 
-// Whether a row is a name class.
+// Yes exactly for a row that is a name class.
 pub fn is_class_row(schema: &[u32], row: u32) -> bool
     ensures { λ r. ⌜ r ≡ isClass (sortOf (now (schema .entry)) row) ⌝ }
 {
@@ -236,7 +241,7 @@ fn names_child(schema: &[u32], p: u32, field: Field, x: u32) -> bool
     }
 }
 
-// The child through field a, a smaller row, or NO_ROW.
+// The child through field a, a smaller row; NO_ROW where the field is bad or holds no child.
 pub fn child_a(schema: &[u32], p: u32) -> u32
     ensures { λ r. ⌜ r ≡ childA (now (schema .entry)) p ⌝ }
 {
@@ -250,7 +255,7 @@ pub fn child_a(schema: &[u32], p: u32) -> u32
     }
 }
 
-// The child through field b, a smaller row, or NO_ROW.
+// The child through field b, a smaller row; NO_ROW where the field is bad or holds no child.
 pub fn child_b(schema: &[u32], p: u32) -> u32
     ensures { λ r. ⌜ r ≡ childB (now (schema .entry)) p ⌝ }
 {
@@ -274,8 +279,8 @@ fn mark_if(marks: &mut [u32], wanted: bool, r: u32)
     }
 }
 
-// Marks the child of row p through field a where the first is wanted, and the one through field b where the second is.
-// Past the end of the marks nothing is stored.
+// Of any table of marks: the child of row p through field a gets the word 1 where the first is wanted, then the one
+// through field b where the second is. Past the end of the marks nothing is stored, and no other word changes.
 pub fn mark_children(schema: &[u32], marks: &mut [u32], p: u32, a: bool, b: bool)
     ensures { λ _. ⌜ now (marks .exit) ≡ childrenMarked (now (schema .entry)) p a b (now (marks .entry)) ⌝ }
 {
@@ -283,7 +288,8 @@ pub fn mark_children(schema: &[u32], marks: &mut [u32], p: u32, a: bool, b: bool
     mark_if(marks, b, child_b(schema, p));
 }
 
-// Whether a field of row p may hold the word x, in a table beside so many strings.
+// Whether a field of row p may hold the word x, in a table beside so many strings: a smaller row of the right sort or
+// none, a definition, a datatype or a string, as the field asks.
 pub fn field_right(strings: usize, schema: &[u32], p: u32, field: Field, x: u32) -> bool
     ensures { λ r. ⌜ r ≡ fieldRight strings (now (schema .entry)) p field x ⌝ }
 {
@@ -325,8 +331,8 @@ fn add_definition(schema: &[u32], d: u32, n: u32, rows: &mut [u32]) -> u32
     n
 }
 
-// The rows of the definitions at the front of rows, in rising order, and how many there are. The words after them are
-// as they were.
+// The rows of the definitions at the front of rows, in rising order, each once, and how many there are. The words after
+// them are as they were. The caller shows that there are at most 512 rows and room for as many.
 pub fn definitions(schema: &[u32], rows: &mut [u32]) -> u32
     requires { ⌜ (rowsOf (now schema) ≤ maxRows) × (maxRows ≤ length (now rows)) ⌝ }
     ensures { λ n. ⌜ Definitions (now (schema .entry)) (now (rows .exit)) n ⌝ }

@@ -1,5 +1,5 @@
--- The least name that two classes have in common, by namespace and then by local number, over all whole numbers as
--- namespaces and all from 1 as locals.
+-- The least name that two classes have in common, by namespace and then by local number. A namespace may be any number,
+-- a local any but 0 (`inClass`).
 use Prim.Native.Nat.{ℕ, _≤_, _<_}
 use mathlib.Core.Path.{_≡_}
 use mathlib.Core.Bool.{true}

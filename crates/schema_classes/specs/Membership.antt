@@ -1,11 +1,12 @@
--- Name classes: which names a class holds, by the rules of ISO/IEC 19757-2, 9.2. A name is a namespace number and a
--- local number.
+-- Name classes: which names a class holds, by the rules of ISO/IEC 19757-2, 9.2. A name u, l has namespace
+-- number u and local number l.
 use Prim.Native.Nat.{ℕ}
 use mathlib.Core.Bool.{Bool, true, false, not, _&&_, _||_}
 use mathlib.Core.List.{List}
 use lib.Dec.{ltb, eqb}
 use Rattle.schema.specs.Falling.{falling}
-use Rattle.schema.specs.Views.{NameClass, anyName, anyNameExcept, nsName, nsNameExcept, name, nameChoice, noClass, classOf}
+use Rattle.schema.specs.Views.{NameClass, anyName, anyNameExcept, nsName}
+use Rattle.schema.specs.Views.{nsNameExcept, name, nameChoice, noClass, classOf}
 
 -- whether the name u, l is in a class, by what the classes at smaller rows hold
 abbrev pub memberBy : (ℕ → Bool) → ℕ → ℕ → NameClass → Bool
@@ -20,6 +21,6 @@ memberBy holds u l noClass = false
 unfoldable pub holds : List ℕ → ℕ → ℕ → ℕ → Bool
 holds s u l c = falling (λ row below. memberBy below u l (classOf s row)) c
 
--- a name with local 0 is in no class
+-- no class has a name whose local number is 0
 abbrev pub inClass : List ℕ → ℕ → ℕ → ℕ → Bool
 inClass s u l c = ltb 0 l && holds s u l c

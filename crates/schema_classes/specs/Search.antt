@@ -48,7 +48,8 @@ pub record Among (xs : List ℕ) (n v : ℕ) : Type 0 where
   pub is : getD xs at 0 ≡ v
 
 -- what one more row adds to a list of mentions
-pub record MentionAdded (s m : List ℕ) (part : NamePart) (r : ℕ) (xs : List ℕ) (n : ℕ) (xs′ : List ℕ) (n′ : ℕ) : Type 0 where
+pub record MentionAdded (s m : List ℕ) (part : NamePart) (r : ℕ) (xs : List ℕ) (n : ℕ) (xs′ : List ℕ)
+    (n′ : ℕ) : Type 0 where
   pub most : n′ ≤ n + 1
   pub kept : (v : ℕ) → Among xs n v → Among xs′ n′ v
   pub added : (v : ℕ) → Marked m r → mentionOf s r part ≡ Of v → Among xs′ n′ v

@@ -9,7 +9,9 @@ ghost use Rattle.schema.specs.Rows.{rowsOf};
 ghost use Rattle.schema.specs.Views.{classOf};
 ghost use Rattle.schema_classes.specs.Membership.{memberBy, holds, inClass};
 ghost use Rattle.schema_classes.specs.Least.{LeastCommon};
-ghost use Rattle.schema_classes.specs.Search.{markedRows, Closure, mentionOf, leastOf, Among, MentionAdded, Mentioned, Fresh, Candidates, Earlier, TriedName, TriedLocals, TriedAll};
+ghost use Rattle.schema_classes.specs.Search.{markedRows, Closure, mentionOf, leastOf, Among};
+ghost use Rattle.schema_classes.specs.Search.{MentionAdded, Mentioned, Fresh, Candidates};
+ghost use Rattle.schema_classes.specs.Search.{Earlier, TriedName, TriedLocals, TriedAll};
 
 // A name, or none.
 pub enum Found {
@@ -75,7 +77,7 @@ fn smaller_holds(schema: &[u32], parent: u32, row: u32, namespace: u32, local: u
     }
 }
 
-// Whether a name is in the class at a row.
+// Yes exactly when the class at a row holds a name; no class holds a name whose local is 0.
 pub fn in_class(schema: &[u32], row: u32, namespace: u32, local: u32) -> bool
     ensures { λ r. ⌜ r ≡ inClass (now (schema .entry)) namespace local row ⌝ }
 {
@@ -303,7 +305,8 @@ fn try_names(
     found
 }
 
-// The least name that the classes at two rows have in common.
+// The least name that the classes at two rows both hold, over all numbers as namespaces and all from 1 on as locals, or
+// nothing where there is none. The caller shows that there are at most 512 rows.
 pub fn least_common(schema: &[u32], first: u32, second: u32) -> Found
     requires { ⌜ rowsOf (now schema) ≤ maxRows ⌝ }
     ensures { λ r. ⌜ LeastCommon (now (schema .entry)) first second r ⌝ }

@@ -21,5 +21,8 @@ pub data Infinite (s : List ℕ) (c : ℕ) : Type 0 where
 
 -- code 7 at row r
 pub data AttributeFault (s : List ℕ) (r : ℕ) : Type 0 where
-  duplicate : (x y u l : ℕ) → sharingKind (kindOf s r) ≡ true → Occurs s x (childA s r) → kindOf s x ≡ kind.attribute → Occurs s y (childB s r) → kindOf s y ≡ kind.attribute → Common s (childA s x) (childA s y) u l → AttributeFault s r
-  not-repeated : kindOf s r ≡ kind.attribute → Infinite s (childA s r) → ((p : ℕ) → kindOf s p ≡ kind.oneOrMore → ¬ Below s r p) → AttributeFault s r
+  duplicate : (x y u l : ℕ) → sharingKind (kindOf s r) ≡ true → Occurs s x (childA s r) → kindOf s x ≡ kind.attribute
+      → Occurs s y (childB s r) → kindOf s y ≡ kind.attribute → Common s (childA s x) (childA s y) u l
+      → AttributeFault s r
+  not-repeated : kindOf s r ≡ kind.attribute → Infinite s (childA s r)
+      → ((p : ℕ) → kindOf s p ≡ kind.oneOrMore → ¬ Below s r p) → AttributeFault s r

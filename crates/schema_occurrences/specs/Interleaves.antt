@@ -13,5 +13,8 @@ classReferred s x = childA s (aOf s x)
 
 -- code 8 at row r
 pub data InterleaveFault (s : List ℕ) (r : ℕ) : Type 0 where
-  same-element : (x y u l : ℕ) → kindOf s r ≡ kind.interleave → Occurs s x (childA s r) → kindOf s x ≡ kind.ref → Occurs s y (childB s r) → kindOf s y ≡ kind.ref → Common s (classReferred s x) (classReferred s y) u l → InterleaveFault s r
-  text-twice : (x y : ℕ) → kindOf s r ≡ kind.interleave → Occurs s x (childA s r) → kindOf s x ≡ kind.text → Occurs s y (childB s r) → kindOf s y ≡ kind.text → InterleaveFault s r
+  same-element : (x y u l : ℕ) → kindOf s r ≡ kind.interleave → Occurs s x (childA s r) → kindOf s x ≡ kind.ref
+      → Occurs s y (childB s r) → kindOf s y ≡ kind.ref → Common s (classReferred s x) (classReferred s y) u l
+      → InterleaveFault s r
+  text-twice : (x y : ℕ) → kindOf s r ≡ kind.interleave → Occurs s x (childA s r) → kindOf s x ≡ kind.text
+      → Occurs s y (childB s r) → kindOf s y ≡ kind.text → InterleaveFault s r

@@ -13,7 +13,8 @@ use Rattle.schema_classes.specs.Least.{Common}
 use Rattle.sets.specs.Bits.{bit}
 use Rattle.schema_occurrences.specs.Interleaves.{classReferred}
 use Rattle.schema_occurrences.specs.declared.Wanted.{Wanted}
-use Rattle.schema_occurrences.specs.declared.Wanted.the-variants.{Text, AttributeSharing, RefSharing, AttributeMeeting, RefMeeting}
+use Rattle.schema_occurrences.specs.declared.Wanted.the-variants.{Text, AttributeSharing, RefSharing}
+use Rattle.schema_occurrences.specs.declared.Wanted.the-variants.{AttributeMeeting, RefMeeting}
 
 -- a pattern with P occurs in p
 abbrev pub Somewhere : List ℕ → (ℕ → Type 0) → ℕ → Type 0

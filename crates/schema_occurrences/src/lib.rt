@@ -251,7 +251,8 @@ fn first_attribute(schema: &[u32]) -> Checked
     scan_attributes(schema, &repeated)
 }
 
-// Code 7: the first row that breaks a restriction on attributes, in a table of the right size.
+// Code 7, of any table: a wrong size is a fault at row 0; in a table of the right size the first row that breaks a
+// restriction on attributes is one. `Fine` exactly when there is neither.
 pub fn check_attributes(schema: &[u32]) -> Checked
     ensures { λ r. ⌜ Finds (SizedFault (now (schema .entry)) (AttributeFault (now (schema .entry)))) r ⌝ }
 {
@@ -288,7 +289,8 @@ fn first_interleave(schema: &[u32]) -> Checked
     scan_interleaves(schema, &mut compared)
 }
 
-// Code 8: the first interleave that breaks a restriction on interleave, in a table of the right size.
+// Code 8, of any table: a wrong size is a fault at row 0; in a table of the right size the first interleave that breaks
+// a restriction on interleave is one. `Fine` exactly when there is neither.
 pub fn check_interleaves(schema: &[u32]) -> Checked
     ensures { λ r. ⌜ Finds (SizedFault (now (schema .entry)) (InterleaveFault (now (schema .entry)))) r ⌝ }
 {

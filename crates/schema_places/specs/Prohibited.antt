@@ -13,7 +13,9 @@ use Rattle.schema_places.specs.Marks.{Under}
 use Rattle.schema_places.specs.Sources.{HasKind}
 use Rattle.schema_places.specs.Paths.{sharingKind, notInAttribute, notInList, notInExcept, notInStart}
 use Rattle.schema_places.specs.declared.Prohibition.{Prohibition}
-use Rattle.schema_places.specs.declared.Prohibition.the-variants.{AnyKind, NotInAnyName, NotInNsName, NotInAttribute, NotInRepeated, NotInList, NotInExcept, NotInStart}
+use Rattle.schema_places.specs.declared.Prohibition.the-variants.{AnyKind, NotInAnyName, NotInNsName}
+use Rattle.schema_places.specs.declared.Prohibition.the-variants.{NotInAttribute, NotInRepeated}
+use Rattle.schema_places.specs.declared.Prohibition.the-variants.{NotInList, NotInExcept, NotInStart}
 
 abbrev pub isProhibited : Prohibition → ℕ → Bool
 isProhibited AnyKind k = true

@@ -15,7 +15,8 @@ ghost use Rattle.schema_places.specs.Sources.{HasKind, IsSource, MarksCh
 ghost use Rattle.schema_places.specs.Places.{holdsWhole, emptyFits, PlaceFault};
 ghost use Rattle.schema_places.specs.Misplaced.{Misplaced};
 ghost use Rattle.schema_places.specs.Names.{NameFault};
-ghost use Rattle.schema_places.specs.Paths.{sharingKind, notInAttribute, notInList, notInExcept, notInStart, PathFault};
+ghost use Rattle.schema_places.specs.Paths.{sharingKind, notInAttribute, notInList};
+ghost use Rattle.schema_places.specs.Paths.{notInExcept, notInStart, PathFault};
 ghost use Rattle.schema_places.specs.Prohibited.{isProhibited, MarkedKind, Prohibited, RepeatedSharing, earliest};
 
 // Which rows mark those below them: the rows of a kind, or the groups and interleaves that a table marks.
@@ -24,7 +25,7 @@ enum Source {
     MarkedSharing,
 }
 
-// Whether a kind is group or interleave.
+// Yes exactly for the kinds group and interleave.
 pub fn is_sharing(kind: u32) -> bool
     ensures { λ r. ⌜ r ≡ sharingKind kind ⌝ }
 {
@@ -92,7 +93,8 @@ fn mark_below(schema: &[u32], source: Source, marks: &[u32], below: &mut [u32])
     }
 }
 
-// Marks the rows below a oneOrMore.
+// 1 at the rows below a oneOrMore, and 0 at every other word. The caller shows that there are at most 512 rows, and 512
+// marks.
 pub fn mark_repeated(schema: &[u32], below: &mut [u32])
     requires { ⌜ MarkRoom (now schema) (now below) ⌝ }
     ensures { λ _. ⌜ MarksExactly (Under (now (schema .entry)) (HasKind (now (schema .entry)) oneOrMore)) (now (below .exit)) ⌝ }
@@ -100,7 +102,8 @@ pub fn mark_repeated(schema: &[u32], below: &mut [u32])
     mark_below(schema, Source::OfKind(schema::ONE_OR_MORE), schema, below);
 }
 
-// Marks the rows below a list.
+// 1 at the rows below a list, and 0 at every other word. The caller shows that there are at most 512 rows, and 512
+// marks.
 pub fn mark_listed(schema: &[u32], below: &mut [u32])
     requires { ⌜ MarkRoom (now schema) (now below) ⌝ }
     ensures { λ _. ⌜ MarksExactly (Under (now (schema .entry)) (HasKind (now (schema .entry)) list)) (now (below .exit)) ⌝ }
@@ -264,7 +267,8 @@ fn first_misplaced(schema: &[u32]) -> Checked
     first_marked(schema, &bad, Prohibition::AnyKind)
 }
 
-// Code 3: the first empty or notAllowed that is out of place, in a table of the right size.
+// Code 3, of any table: a wrong size is a fault at row 0; in a table of the right size the first empty or notAllowed
+// that is out of place is one. `Fine` exactly when there is neither.
 pub fn check_places(schema: &[u32]) -> Checked
     ensures { λ r. ⌜ Finds (SizedFault (now (schema .entry)) (PlaceFault (now (schema .entry)))) r ⌝ }
 {
@@ -298,7 +302,7 @@ fn first_below(schema: &[u32], above: u32, prohibition: Prohibition) -> Checked
     first_marked(schema, &below, prohibition)
 }
 
-// The first attribute below a group or interleave that is below a oneOrMore.
+// The first attribute with a group or interleave above it that has a oneOrMore above itself.
 fn first_repeated(schema: &[u32]) -> Checked
     requires { ⌜ rowsOf (now schema) ≤ maxRows ⌝ }
     ensures { λ r. ⌜ Finds (Prohibited (now (schema .entry)) (RepeatedSharing (now (schema .entry))) Prohibition.NotInRepeated) r ⌝ }
@@ -336,7 +340,8 @@ fn first_name(schema: &[u32]) -> Checked
     earlier(any, ns)
 }
 
-// Code 4: the first anyName or nsName in an except that has no place for it, in a table of the right size.
+// Code 4, of any table: a wrong size is a fault at row 0; in a table of the right size the first anyName or nsName
+// where an except has no place for it is one. `Fine` exactly when there is neither.
 pub fn check_names(schema: &[u32]) -> Checked
     ensures { λ r. ⌜ Finds (SizedFault (now (schema .entry)) (NameFault (now (schema .entry)))) r ⌝ }
 {
@@ -347,7 +352,8 @@ pub fn check_names(schema: &[u32]) -> Checked
     first_name(schema)
 }
 
-// Code 5: the first row on a prohibited path, in a table of the right size.
+// Code 5, of any table: a wrong size is a fault at row 0; in a table of the right size the first row on a prohibited
+// path is one. `Fine` exactly when there is neither.
 pub fn check_paths(schema: &[u32]) -> Checked
     ensures { λ r. ⌜ Finds (SizedFault (now (schema .entry)) (PathFault (now (schema .entry)))) r ⌝ }
 {

@@ -3,7 +3,8 @@ use tables::Checked;
 use tables::Verdict;
 ghost use Rattle.schema_restrictions.specs.Schema.{SchemaVerdict};
 
-// Codes 2 to 8 on the rows of a schema beside so many strings: the first refusal with its place.
+// Codes 2 to 8 on the rows of a schema beside so many strings: the first code that finds a fault, with its smallest
+// place; nothing is refused exactly when no code finds one.
 pub fn check_schema(strings: usize, schema: &[u32]) -> Verdict
     ensures { λ r. ⌜ SchemaVerdict strings (now (schema .entry)) r ⌝ }
 {

@@ -79,7 +79,7 @@ fn first_wrong_row(strings: usize, schema: &[u32]) -> Checked
     scan_rows(strings, schema, &counts)
 }
 
-// Code 2: the place of the first row that breaks the rule of schema rows, in a table beside so many strings.
+// Code 2: `Fine` exactly when the rows keep their rule beside so many strings, and otherwise the smallest faulty row.
 pub fn check_rows(strings: usize, schema: &[u32]) -> Checked
     ensures { λ r. ⌜ Finds (RowFault strings (now (schema .entry))) r ⌝ }
 {

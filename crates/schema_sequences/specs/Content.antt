@@ -34,14 +34,19 @@ pub data HasType (s : List ℕ) : ℕ → ℕ → Type 0 where
   ref-type : {r : ℕ} → kindOf s r ≡ kind.ref → HasType s r complexType
   empty-type : {r : ℕ} → kindOf s r ≡ kind.empty → HasType s r emptyType
   attribute-type : {r c : ℕ} → kindOf s r ≡ kind.attribute → HasType s (childB s r) c → HasType s r emptyType
-  sharing-type : {r c d : ℕ} → sharingKind (kindOf s r) ≡ true → HasType s (childA s r) c → HasType s (childB s r) d → groupable c d ≡ true → HasType s r (max c d)
-  oneOrMore-type : {r c : ℕ} → kindOf s r ≡ kind.oneOrMore → HasType s (childA s r) c → groupable c c ≡ true → HasType s r c
-  choice-type : {r c d : ℕ} → kindOf s r ≡ kind.choice → HasType s (childA s r) c → HasType s (childB s r) d → HasType s r (max c d)
+  sharing-type : {r c d : ℕ} → sharingKind (kindOf s r) ≡ true → HasType s (childA s r) c → HasType s (childB s r) d
+      → groupable c d ≡ true → HasType s r (max c d)
+  oneOrMore-type : {r c : ℕ} → kindOf s r ≡ kind.oneOrMore → HasType s (childA s r) c
+      → groupable c c ≡ true → HasType s r c
+  choice-type : {r c d : ℕ} → kindOf s r ≡ kind.choice → HasType s (childA s r) c → HasType s (childB s r) d
+      → HasType s r (max c d)
 
 -- the operands of row r have types that do not go together
 pub data Clash (s : List ℕ) (r : ℕ) : Type 0 where
-  sharing-not-groupable : (c d : ℕ) → sharingKind (kindOf s r) ≡ true → HasType s (childA s r) c → HasType s (childB s r) d → groupable c d ≡ false → Clash s r
-  repeat-not-groupable : (c : ℕ) → kindOf s r ≡ kind.oneOrMore → HasType s (childA s r) c → groupable c c ≡ false → Clash s r
+  sharing-not-groupable : (c d : ℕ) → sharingKind (kindOf s r) ≡ true → HasType s (childA s r) c
+      → HasType s (childB s r) d → groupable c d ≡ false → Clash s r
+  repeat-not-groupable : (c : ℕ) → kindOf s r ≡ kind.oneOrMore → HasType s (childA s r) c
+      → groupable c c ≡ false → Clash s r
 
 -- row r is below a list
 abbrev pub InList : List ℕ → ℕ → Type 0
@@ -49,7 +54,7 @@ InList s r = Under s (HasKind s kind.list) r
 
 -- Code 6 at row r: its own operands clash, and it is below no list, where 10.3 does not apply. The rule (element) of
 -- 10.3, taken literally, would also make an element of notAllowed incorrect, since notAllowed has no content type;
--- document 01's restriction 3 lets notAllowed be the whole pattern of an element, so that it is no fault
+-- restriction 3 of FORMAT, "Restrictions", lets notAllowed be the whole pattern of an element, so that it is no fault
 -- (docs/DECISIONS.md).
 pub record SequenceFault (s : List ℕ) (r : ℕ) : Type 0 where
   pub clash : Clash s r

@@ -167,8 +167,8 @@ fn first_clash(schema: &[u32]) -> Checked
     scan_types(schema, &listed, &mut types)
 }
 
-// Code 6: the first row outside lists whose operands have content types that do not go together, in a table of the
-// right size.
+// Code 6, of any table: a wrong size is a fault at row 0; in a table of the right size the first row below no list
+// whose operands have content types that do not go together is one. `Fine` exactly when there is neither.
 pub fn check_content(schema: &[u32]) -> Checked
     ensures { λ r. ⌜ Finds (SizedFault (now (schema .entry)) (SequenceFault (now (schema .entry)))) r ⌝ }
 {

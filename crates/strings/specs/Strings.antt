@@ -1,4 +1,4 @@
--- The string table and its rule, from document 01, "Strings", and code 1 of its table of codes.
+-- The string table and its rule, from FORMAT, "Strings", and code 1 of FORMAT, "Codes and places".
 use Prim.Native.Nat.{ℕ, zero, suc, _<_}
 use mathlib.Core.Path.{_≡_}
 use mathlib.Core.Logic.{_≢_}
@@ -7,14 +7,14 @@ use lib.ListN.{length, getD}
 use Rattle.tables.specs.Place.{between}
 use Rattle.tables.specs.Tables.{StringTable}
 
--- the limits of document 01
+-- the limits of FORMAT, "Strings"
 abbrev pub maxStrings : ℕ
 maxStrings = 512
 
 abbrev pub maxBytes : ℕ
 maxBytes = 16384
 
--- string k runs from the end before it, 0 for the first, to its own
+-- where string k ends, and where it starts: at the end of the string before it, and string 0 at 0
 abbrev pub endOf : List ℕ → ℕ → ℕ
 endOf ends k = getD ends k 0
 

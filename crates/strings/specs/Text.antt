@@ -11,6 +11,7 @@ use Rattle.strings.specs.Strings.{startOf, endOf, StringFault, StringsRi
 -- the part of string k where the strings keep their rule and k is in the table, and otherwise an empty part from the
 -- start
 pub record StringText (bytes : RefT (List ℕ)) (ends : List ℕ) (k : ℕ) (r : RefT (List ℕ)) : Type 0 where
-  pub in-table : StringsRight (stringTable (now bytes) ends) → k < length ends → whereIs r ≡ partPlace bytes (startOf ends k) (endOf ends k)
+  pub in-table : StringsRight (stringTable (now bytes) ends) → k < length ends
+      → whereIs r ≡ partPlace bytes (startOf ends k) (endOf ends k)
   pub not-in-table : length ends ≤ k → whereIs r ≡ emptyPlace bytes
   pub rule-broken : (place : ℕ) → StringFault (stringTable (now bytes) ends) place → whereIs r ≡ emptyPlace bytes

@@ -6,7 +6,8 @@ ghost use lib.ListN.{length};
 ghost use Rattle.tables.specs.Answers.{Decides, Finds};
 ghost use Rattle.tables.specs.Place.{Part};
 ghost use Rattle.tables.specs.Tables.{stringTable};
-ghost use Rattle.strings.specs.Strings.{startOf, endOf, Falls, RepeatsText, FrontFault, EndFault, StringFault, maxStrings};
+ghost use Rattle.strings.specs.Strings.{startOf, endOf, Falls, RepeatsText};
+ghost use Rattle.strings.specs.Strings.{FrontFault, EndFault, StringFault, maxStrings};
 ghost use Rattle.strings.specs.Chains.{hashOf, hashAt, LastOf, Linked};
 ghost use Rattle.strings.specs.Text.{StringText};
 
@@ -14,7 +15,7 @@ pub const MAX_STRINGS: usize = 512;
 
 pub const MAX_BYTES: usize = 16384;
 
-// Where string k starts: at the end of the string before.
+// Where string k starts: at the end of the string before, and string 0 at 0.
 pub fn start(ends: &[u32], k: usize) -> usize
     ensures { λ r. ⌜ r ≡ startOf (now (ends .entry)) k ⌝ }
 {
@@ -25,7 +26,7 @@ pub fn start(ends: &[u32], k: usize) -> usize
     }
 }
 
-// The text of string k, as a part of the lent bytes, whatever the ends are.
+// The text of string k as a part of the lent bytes, from its start to its end, as `tables::part` gives it for any ends.
 pub fn text<'a>(bytes: &'a [u8], ends: &[u32], k: usize) -> &'a [u8]
     ensures { λ r. ⌜ Part (bytes .entry) (startOf (now (ends .entry)) k) (endOf (now (ends .entry)) k) r ⌝ }
 {
@@ -138,7 +139,7 @@ fn check_ends(bytes: &[u8], ends: &[u32]) -> Checked
     Checked::Fine
 }
 
-// Code 1: the place of the first string that breaks the rule of the table.
+// Code 1: `Fine` exactly when the strings keep their rule, and otherwise the smallest place at which they break it.
 pub fn check_strings(bytes: &[u8], ends: &[u32]) -> Checked
     ensures { λ r. ⌜ Finds (StringFault (stringTable (now (bytes .entry)) (now (ends .entry)))) r ⌝ }
 {
