@@ -1,4 +1,4 @@
--- Cases P1 to P12 of document 01 hold of the definitions.
+-- Cases P1 to P12 of FORMAT, "Cases", hold of the definitions.
 use mathlib.Core.Path.{_≡_, refl}
 use mathlib.Core.Bool.{true}
 use Rattle.datatypes.specs.Whitespace.{space}
@@ -31,7 +31,10 @@ use Rattle.cases.proofs.Checked.{check, checkAll, all-checked}
 
 -- every row of the table succeeds, by computation
 checked : checkAll table ≡ true
-unfolding space upto shapeOf usesBefore patternBy classBy class.holds rowsWhere fieldsRight howMany typeBy clashBy run everyBelow someBelow stringsTest childTest insideTest rowsTest noneBelow placesTest namesTest pathsTest typeBelow clashTest inListTest sequenceTest meetTest leastTest sharedTest attributesTest interleaveTest passTest refusedTest upTest parentTest nodesTest widthTest reachTest plusTest spanTest pairTest validTest check
+unfolding space upto shapeOf usesBefore patternBy classBy class.holds rowsWhere fieldsRight howMany typeBy clashBy
+    run everyBelow someBelow stringsTest childTest insideTest rowsTest noneBelow placesTest namesTest pathsTest
+    typeBelow clashTest inListTest sequenceTest meetTest leastTest sharedTest attributesTest interleaveTest
+    passTest refusedTest upTest parentTest nodesTest widthTest reachTest plusTest spanTest pairTest validTest check
 checked = refl
 
 -- P1 to P12

@@ -33,8 +33,14 @@ module _ (strings : ℕ) (s : List ℕ) (c d : ℕ) where
   unfolding meetTest
   test-meet e =
       let x = below-some (λ u. someBelow (bothHold u) (bound strings)) (bound strings) e in
-      let y = below-some (bothHold (x .0)) (bound strings) (x .2) in
-      (x .0, y .0, record { first = and-left (inClass s (x .0) (y .0) c) (inClass s (x .0) (y .0) d) (y .2); second = and-right (inClass s (x .0) (y .0) c) (inClass s (x .0) (y .0) d) (y .2) })
+      let y = below-some (bothHold (x .0)) (bound strings) (x .2) in (
+        x .0,
+        y .0,
+        record {
+          first = and-left (inClass s (x .0) (y .0) c) (inClass s (x .0) (y .0) d) (y .2);
+          second = and-right (inClass s (x .0) (y .0) c) (inClass s (x .0) (y .0) d) (y .2);
+        },
+      )
 
   pub meet-test : RowsRight strings s → (u l : ℕ) → Common s c d u l → meetTest ≡ true
   unfolding meetTest
@@ -43,7 +49,8 @@ module _ (strings : ℕ) (s : List ℕ) (c d : ℕ) where
       let a = n .low-namespace in
       let b = n .low-local in
       some-below (λ u. someBelow (bothHold u) (bound strings)) (bound strings) (n .namespace) (omega arith)
-      (some-below (bothHold (n .namespace)) (bound strings) (n .local) (omega arith) (both-and (n .common .first) (n .common .second)))
+      (some-below (bothHold (n .namespace)) (bound strings) (n .local)
+      (omega arith) (both-and (n .common .first) (n .common .second)))
 
   -- the name u, l is common, and no small one that is comes before it
   module _ (u l : ℕ) where
@@ -63,7 +70,10 @@ module _ (strings : ℕ) (s : List ℕ) (c d : ℕ) where
     not-before v k e =
         elim (or-either (ltb u v) (eqb u v && not (ltb k l)) e) [
           | inl z ↦ inl (ltb-true u v z)
-          | inr z ↦ inr (eqb-true u v (and-left (eqb u v) (not (ltb k l)) z), not-less (λ h. no-of (and-right (eqb u v) (not (ltb k l)) z) (lt-ltb k l h)))
+          | inr z ↦ inr (
+            eqb-true u v (and-left (eqb u v) (not (ltb k l)) z),
+            not-less (λ h. no-of (and-right (eqb u v) (not (ltb k l)) z) (lt-ltb k l h)),
+          )
         ]
 
     later : (v k x y : ℕ) → x ≤ v → y ≤ k → NotAfter u l x y → NotAfter u l v k
@@ -76,13 +86,21 @@ module _ (strings : ℕ) (s : List ℕ) (c d : ℕ) where
 
     pub least-test : RowsRight strings s → leastTest ≡ true → LeastCommon s c d (Name u l)
     unfolding leastTest
-    least-test right pass = (record { first = and-left (inClass s u l c) (inClass s u l d) here; second = and-right (inClass s u l c) (inClass s u l d) here }, first)
+    least-test right pass = (
+      record {
+        first = and-left (inClass s u l c) (inClass s u l d) here;
+        second = and-right (inClass s u l c) (inClass s u l d) here;
+      },
+      first,
+    )
       where
         here : bothHold u l ≡ true
         here = and-left (bothHold u l) allLater pass
 
         tested : (v k : ℕ) → v < bound strings → k < bound strings → laterTest v k ≡ true
-        tested v k i j = every-below (laterTest v) (bound strings) (every-below (λ v. everyBelow (laterTest v) (bound strings)) (bound strings) (and-right (bothHold u l) allLater pass) v i) k j
+        tested v k i j =
+            every-below (laterTest v) (bound strings) (every-below (λ v. everyBelow (laterTest v) (bound strings))
+            (bound strings) (and-right (bothHold u l) allLater pass) v i) k j
 
         first : (v k : ℕ) → Common s c d v k → NotAfter u l v k
         first v k h =
@@ -91,7 +109,8 @@ module _ (strings : ℕ) (s : List ℕ) (c d : ℕ) where
             let b = n .low-local in
             let x : ℕ = n .namespace in
             let y : ℕ = n .local in
-            later v k x y (n .most-namespace) (n .most-local) (elim (or-either (not (bothHold x y)) (notBefore x y) (tested x y (omega arith) (omega arith))) [
+            later v k x y (n .most-namespace) (n .most-local)
+            (elim (or-either (not (bothHold x y)) (notBefore x y) (tested x y (omega arith) (omega arith))) [
               | inl e ↦ absurd (no-of e (both-and (n .common .first) (n .common .second)))
               | inr e ↦ not-before x y e
             ])

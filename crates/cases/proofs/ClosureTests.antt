@@ -24,11 +24,13 @@ module _ (R : ℕ → ℕ → Bool) where
     test-plus zero i j h = once (sound i j h)
     test-plus (suc n) i j h = go (R i j) refl h (λ k. test-plus n k j)
       where
-        go : (b : Bool) → R i j ≡ b → elim b [ true ↦ true | false ↦ someBelow (stepTest (plusTest n) i j) j ] ≡ true → ((k : ℕ) → plusTest n k j ≡ true → Plus S k j) → Plus S i j
+        go : (b : Bool) → R i j ≡ b → elim b [ true ↦ true | false ↦ someBelow (stepTest (plusTest n) i j) j ] ≡ true
+            → ((k : ℕ) → plusTest n k j ≡ true → Plus S k j) → Plus S i j
         go true f h rest = once (sound i j f)
         go false f h rest =
             let k = below-some (stepTest (plusTest n) i j) j h in
-            let l = unguarded (ltb i (k .0)) (elim (R i (k .0)) as (λ b. Bool) [ true ↦ plusTest n (k .0) j | false ↦ false ]) (k .2) in
+            let l = unguarded (ltb i (k .0))
+            (elim (R i (k .0)) as (λ b. Bool) [ true ↦ plusTest n (k .0) j | false ↦ false ]) (k .2) in
             let r = unguarded (R i (k .0)) (plusTest n (k .0) j) (l .1) in
             more (sound i (k .0) (r .0)) (rest (k .0) (r .1))
 
@@ -58,10 +60,17 @@ module _ (R : ℕ → ℕ → Bool) where
           where
             side : (c : Bool) → elim c [ true ↦ true | false ↦ someBelow (stepTest (plusTest n) i j) j ] ≡ true
             side true = refl
-            side false = some-below (stepTest (plusTest n) i j) j h q (guarded (ltb i h) (lt-ltb i h p) (guarded (R i h) (complete i h s) r))
+            side false =
+                some-below (stepTest (plusTest n) i j) j h q
+                (guarded (ltb i h) (lt-ltb i h p) (guarded (R i h) (complete i h s) r))
 
-        go : (n : ℕ) → j - i ≤ n → Dec (i < h) → Dec (h < j) → ((n : ℕ) → j - h ≤ n → plusTest n h j ≡ true) → plusTest n i j ≡ true
-        go n l (no p) d rest = let e : h ≡ i = omega (arith, a, b) in subst (λ (k : ℕ). plusTest n k j ≡ true) e (rest n (omega (arith, a, b)))
-        go n l (yes p) (no q) rest = let e : h ≡ j = omega (arith, a, b) in last-step n i j (subst (λ (k : ℕ). R i k ≡ true) e (complete i h s))
+        go : (n : ℕ) → j - i ≤ n → Dec (i < h) → Dec (h < j)
+            → ((n : ℕ) → j - h ≤ n → plusTest n h j ≡ true) → plusTest n i j ≡ true
+        go n l (no p) d rest =
+            let e : h ≡ i = omega (arith, a, b) in
+            subst (λ (k : ℕ). plusTest n k j ≡ true) e (rest n (omega (arith, a, b)))
+        go n l (yes p) (no q) rest =
+            let e : h ≡ j = omega (arith, a, b) in
+            last-step n i j (subst (λ (k : ℕ). R i k ≡ true) e (complete i h s))
         go zero l (yes p) (yes q) rest = absurd (omega (arith, a, b))
         go (suc n) l (yes p) (yes q) rest = further n p q (rest n (omega (arith, a, b)))

@@ -28,11 +28,15 @@ module _ (s : List ℕ) where
   -- the content type of a row before n, noType where it has none
   unfoldable pub typeBelow : ℕ → ℕ → ℕ
   typeBelow zero r = noType
-  typeBelow (suc n) r = typeBy (kindOf s r) (bOf s r) (typeIf (namesA s r) (typeBelow n) (childA s r)) (typeIf (namesB s r) (typeBelow n) (childB s r))
+  typeBelow (suc n) r =
+      typeBy (kindOf s r) (bOf s r) (typeIf (namesA s r) (typeBelow n) (childA s r))
+      (typeIf (namesB s r) (typeBelow n) (childB s r))
 
   -- the operands of row r do not go together
   unfoldable pub clashTest : ℕ → Bool
-  clashTest r = clashBy (kindOf s r) (typeIf (namesA s r) (typeBelow r) (childA s r)) (typeIf (namesB s r) (typeBelow r) (childB s r))
+  clashTest r =
+      clashBy (kindOf s r) (typeIf (namesA s r) (typeBelow r) (childA s r))
+      (typeIf (namesB s r) (typeBelow r) (childB s r))
 
   -- row r is below the list p, and below a list
   abbrev listAbove : ℕ → ℕ → Bool
@@ -50,7 +54,8 @@ module _ (s : List ℕ) where
     none-type = no-row-type s kind.noRow right (let l = few-rows right in omega arith)
 
     -- the child of a row through a field that names one, and through one that does not
-    type-if : (named : Bool) (x n : ℕ) → ((q : ℕ) → q < n → TypeIs s q (typeBelow n q)) → (named ≡ true → x < n) → TypeIs s (cond named x kind.noRow) (typeIf named (typeBelow n) (cond named x kind.noRow))
+    type-if : (named : Bool) (x n : ℕ) → ((q : ℕ) → q < n → TypeIs s q (typeBelow n q)) → (named ≡ true → x < n)
+        → TypeIs s (cond named x kind.noRow) (typeIf named (typeBelow n) (cond named x kind.noRow))
     type-if true x n rest h = rest x (h refl)
     type-if false x n rest h = none-type
 
@@ -59,8 +64,10 @@ module _ (s : List ℕ) where
     types zero r l = absurd (omega arith)
     types (suc n) r l =
         type-is s r _ _
-        (type-if (namesA s r) (aOf s r) n (types n) (λ e. let h = child-less {s = s} {p = r} (by-a e refl) in omega arith))
-        (type-if (namesB s r) (bOf s r) n (types n) (λ e. let h = child-less {s = s} {p = r} (by-b e refl) in omega arith))
+        (type-if (namesA s r) (aOf s r) n (types n)
+        (λ e. let h = child-less {s = s} {p = r} (by-a e refl) in omega arith))
+        (type-if (namesB s r) (bOf s r) n (types n)
+        (λ e. let h = child-less {s = s} {p = r} (by-b e refl) in omega arith))
 
     clash-test : (r : ℕ) → Decides (Clash s r) (clashTest r)
     unfolding clashTest
@@ -73,7 +80,8 @@ module _ (s : List ℕ) where
     unfolding inListTest
     in-list-test r u =
         let l = in-table right {r = u .row} (λ z. omega (arith, u .source, z)) in
-        some-below (listAbove r) (rowsOf s) (u .row) l (guarded (eqb (kindOf s (u .row)) kind.list) (eq-eqb _ _ (u .source)) (below-test s (eqb r) (rowsOf s) (omega arith) (u .below) (eq-eqb r r refl)))
+        some-below (listAbove r) (rowsOf s) (u .row) l (guarded (eqb (kindOf s (u .row)) kind.list)
+        (eq-eqb _ _ (u .source)) (below-test s (eqb r) (rowsOf s) (omega arith) (u .below) (eq-eqb r r refl)))
 
     test-in-list : (r : ℕ) → inListTest r ≡ true → InList s r
     unfolding inListTest
@@ -81,13 +89,18 @@ module _ (s : List ℕ) where
         let x = below-some (listAbove r) (rowsOf s) h in
         let g = unguarded (eqb (kindOf s (x .0)) kind.list) (belowTest s (eqb r) (rowsOf s) (x .0)) (x .2) in
         let b = test-below s (eqb r) (rowsOf s) (x .0) (g .1) in
-        record { row = x .0; source = eqb-true _ _ (g .0); below = subst (λ (q : ℕ). Below s q (x .0)) (sym (eqb-true r (b .0) (b .2))) (b .1) }
+        record {
+          row = x .0;
+          source = eqb-true _ _ (g .0);
+          below = subst (λ (q : ℕ). Below s q (x .0)) (sym (eqb-true r (b .0) (b .2))) (b .1);
+        }
 
     pub sequence-test : (r : ℕ) → Decides (SequenceFault s r) (sequenceTest r)
     unfolding sequenceTest
     sequence-test r = go (clashTest r) (clash-test r) (inListTest r) refl
       where
-        go : (a : Bool) → Decides (Clash s r) a → (b : Bool) → inListTest r ≡ b → Decides (SequenceFault s r) (elim a as (λ c. Bool) [ true ↦ not b | false ↦ false ])
+        go : (a : Bool) → Decides (Clash s r) a → (b : Bool) → inListTest r ≡ b
+            → Decides (SequenceFault s r) (elim a as (λ c. Bool) [ true ↦ not b | false ↦ false ])
         go true c true e = λ f. f .outside (test-in-list r e)
         go true c false e = record { clash = c; outside = λ u. true≢false (sym (in-list-test r u) ∙ e) }
         go false c b e = λ f. c (f .clash)

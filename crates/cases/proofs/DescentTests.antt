@@ -41,7 +41,11 @@ module _ (s : List ℕ) where
   -- p passes, or a row that is reached from p through rows of the kinds that a gate lets through, in fewer than n steps
   unfoldable pub insideTest : (ℕ → Bool) → (ℕ → Bool) → ℕ → ℕ → Bool
   insideTest gate t zero p = false
-  insideTest gate t (suc n) p = elim (t p) [ true ↦ true | false ↦ elim (gate (kindOf s p)) [ true ↦ childTest (insideTest gate t n) p | false ↦ false ] ]
+  insideTest gate t (suc n) p =
+      elim (t p) [
+        | true ↦ true
+        | false ↦ elim (gate (kindOf s p)) [ true ↦ childTest (insideTest gate t n) p | false ↦ false ]
+      ]
 
   abbrev any : ℕ → Bool
   any k = true
@@ -50,26 +54,36 @@ module _ (s : List ℕ) where
   unfolding insideTest
   inside-here gate t n p h = rw (h, insideTest)
 
-  inside-child : (gate t : ℕ → Bool) (n : ℕ) {p q : ℕ} → gate (kindOf s p) ≡ true → Child s q p → insideTest gate t n q ≡ true → insideTest gate t (suc n) p ≡ true
+  inside-child : (gate t : ℕ → Bool) (n : ℕ) {p q : ℕ} → gate (kindOf s p) ≡ true
+      → Child s q p → insideTest gate t n q ≡ true → insideTest gate t (suc n) p ≡ true
   unfolding insideTest
   inside-child gate t n {p} g c h = go (t p)
     where
-      go : (b : Bool) → elim b [ true ↦ true | false ↦ elim (gate (kindOf s p)) [ true ↦ childTest (insideTest gate t n) p | false ↦ false ] ] ≡ true
+      go : (b : Bool) → elim b [
+        | true ↦ true
+        | false ↦ elim (gate (kindOf s p)) [ true ↦ childTest (insideTest gate t n) p | false ↦ false ]
+      ] ≡ true
       go true = refl
       go false = guarded (gate (kindOf s p)) g (child-test (insideTest gate t n) c h)
 
-  pub occurs-test : (t : ℕ → Bool) (n : ℕ) {r p : ℕ} → p < n → Occurs s r p → t r ≡ true → insideTest connective t n p ≡ true
+  pub occurs-test : (t : ℕ → Bool) (n : ℕ) {r p : ℕ} → p < n
+      → Occurs s r p → t r ≡ true → insideTest connective t n p ≡ true
   occurs-test t zero l o h = absurd (omega arith)
   occurs-test t (suc n) {r} l itself h = inside-here connective t n r h
-  occurs-test t (suc n) l (within g c o) h = inside-child connective t n g c (occurs-test t n (let f = child-less c in omega arith) o h)
+  occurs-test t (suc n) l (within g c o) h =
+      inside-child connective t n g c (occurs-test t n (let f = child-less c in omega arith) o h)
 
-  pub test-occurs : (t : ℕ → Bool) (n p : ℕ) → insideTest connective t n p ≡ true → (r : ℕ) × Occurs s r p × (t r ≡ true)
+  pub test-occurs : (t : ℕ → Bool) (n p : ℕ) → insideTest connective t n p ≡ true
+      → (r : ℕ) × Occurs s r p × (t r ≡ true)
   unfolding insideTest
   test-occurs t zero p e = absurd (false≢true e)
   test-occurs t (suc n) p e = go (t p) refl (connective (kindOf s p)) refl e (test-occurs t n)
     where
-      go : (b : Bool) → t p ≡ b → (g : Bool) → connective (kindOf s p) ≡ g → elim b [ true ↦ true | false ↦ elim g [ true ↦ childTest (insideTest connective t n) p | false ↦ false ] ] ≡ true
-          → ((q : ℕ) → insideTest connective t n q ≡ true → (r : ℕ) × Occurs s r q × (t r ≡ true)) → (r : ℕ) × Occurs s r p × (t r ≡ true)
+      go : (b : Bool) → t p ≡ b → (g : Bool) → connective (kindOf s p) ≡ g
+          → elim b [ true ↦ true | false ↦ elim g [ true ↦ childTest (insideTest connective t n) p | false ↦ false ] ]
+          ≡ true
+          → ((q : ℕ) → insideTest connective t n q ≡ true → (r : ℕ) × Occurs s r q × (t r ≡ true))
+          → (r : ℕ) × Occurs s r p × (t r ≡ true)
       go true h g f e rest = (p, itself, h)
       go false h true f e rest =
           let c = test-child (insideTest connective t n) e in
@@ -90,13 +104,15 @@ module _ (s : List ℕ) where
       let u = test-child (insideTest any t n) (below-test t n (omega arith) b h) in
       child-test (insideTest any t (suc n)) c (inside-child any t n refl (u .1) (u .2))
 
-  reach : (t : ℕ → Bool) (n q : ℕ) {p : ℕ} → Child s q p → insideTest any t n q ≡ true → (r : ℕ) × Below s r p × (t r ≡ true)
+  reach : (t : ℕ → Bool) (n q : ℕ) {p : ℕ} → Child s q p
+      → insideTest any t n q ≡ true → (r : ℕ) × Below s r p × (t r ≡ true)
   unfolding insideTest
   reach t zero q c e = absurd (false≢true e)
   reach t (suc n) q {p} c e = go (t q) refl e (λ x y c e. reach t n x c e)
     where
       go : (b : Bool) → t q ≡ b → elim b [ true ↦ true | false ↦ childTest (insideTest any t n) q ] ≡ true
-          → ((x y : ℕ) → Child s x y → insideTest any t n x ≡ true → (r : ℕ) × Below s r y × (t r ≡ true)) → (r : ℕ) × Below s r p × (t r ≡ true)
+          → ((x y : ℕ) → Child s x y → insideTest any t n x ≡ true → (r : ℕ) × Below s r y × (t r ≡ true))
+          → (r : ℕ) × Below s r p × (t r ≡ true)
       go true h e rest = (q, child c, h)
       go false h e rest =
           let d = test-child (insideTest any t n) e in

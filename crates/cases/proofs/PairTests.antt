@@ -47,7 +47,10 @@ equalTest (suc n) s₁ s₂ = sameText (normalizeWhiteSpace s₁) (normalizeWhit
 
 equals : (t : ℕ) (s₁ s₂ : List ℕ) → (equalTest t s₁ s₂ ≡ true) ↔ datatypeEqual t s₁ s₂
 equals zero s₁ s₂ = (text-same s₁ s₂, same-text s₁ s₂)
-equals (suc n) s₁ s₂ = (text-same (normalizeWhiteSpace s₁) (normalizeWhiteSpace s₂), same-text (normalizeWhiteSpace s₁) (normalizeWhiteSpace s₂))
+equals (suc n) s₁ s₂ = (
+  text-same (normalizeWhiteSpace s₁) (normalizeWhiteSpace s₂),
+  same-text (normalizeWhiteSpace s₁) (normalizeWhiteSpace s₂),
+)
 
 -- the item at a position
 abbrev itemAt : List Item → ℕ → Item
@@ -66,7 +69,11 @@ module _ (L : Lookups) where
   bareTest rec A p (element x ∷ m) = false
 
   abbrev weakTest : Test → Attributes → ℕ → List Item → Bool
-  weakTest rec A p m = elim (hasElement m) [ true ↦ rec (itemAt m) A (λ k. notWhitespace L (itemAt m k)) p 0 (length m) | false ↦ bareTest rec A p m ]
+  weakTest rec A p m =
+      elim (hasElement m) [
+        | true ↦ rec (itemAt m) A (λ k. notWhitespace L (itemAt m k)) p 0 (length m)
+        | false ↦ bareTest rec A p m
+      ]
 
 module _ (J : Tables) where
   abbrev s : List ℕ
@@ -88,12 +95,16 @@ module _ (J : Tables) where
   unfoldable pub pairTest : ℕ → ℕ → ℕ → Bool
   pairTest zero e d = false
   pairTest (suc n) e d =
-      elim (L .isDefinition d && L .inClass (L .nameClass d) e) [ true ↦ weakTest L (matchTest (pairTest n)) (L .attributes e) (L .content d) (L .children e) | false ↦ false ]
+      elim (L .isDefinition d && L .inClass (L .nameClass d) e) [
+        | true ↦ weakTest L (matchTest (pairTest n)) (L .attributes e) (L .content d) (L .children e)
+        | false ↦ false
+      ]
 
   unfoldable pub validTest : Bool
   validTest = matchTest (pairTest (nodesOf t)) (λ k. element 0) noAttributes all (schema.aOf s (startRow J)) 0 1
 
-  module _ (strings : StringsRight (J .strings)) (pass : SchemaPasses (schemaStrings (J .strings)) s) (nodes : NodesRight (instanceStrings (J .strings)) t) where
+  module _ (strings : StringsRight (J .strings)) (pass : SchemaPasses (schemaStrings (J .strings)) s)
+      (nodes : NodesRight (instanceStrings (J .strings)) t) where
     R : Restricted L
     R = restricted J pass
 
@@ -104,7 +115,8 @@ module _ (J : Tables) where
       decided : Decided L R (nodesOf t) equalTest pair equals (schema.rowsOf s) (matchTest pair)
       decided = span-decided L R (nodesOf t) equalTest pair equals (schema.rowsOf s)
 
-      module _ (e : ℕ) (h : e < nodesOf t) (known : (x d : ℕ) → e < x → x < nodesOf t → (pair x d ≡ true) ↔ Paired L Not x d) (p : ℕ) (l : p < schema.rowsOf s)
+      module _ (e : ℕ) (h : e < nodesOf t) (known : (x d : ℕ) → e < x → x < nodesOf t
+          → (pair x d ≡ true) ↔ Paired L Not x d) (p : ℕ) (l : p < schema.rowsOf s)
           (sequential : Sequential L (L .pattern p)) where
         bound : Bound (nodesOf t) (L .attributes e)
         bound x a = attribute-later nodes e x h a .1
@@ -116,31 +128,40 @@ module _ (J : Tables) where
         fits = record {
           bound = bound;
           distinct = distinct;
-          clean = stripped-clean L (itemAt (L .children e)) (λ k. notWhitespace L (itemAt (L .children e) k)) (λ k m. m);
-          known = λ k x d i. let c = child-element J strings nodes e x h (item-member (L .children e) k x i) in known x d (c .0) (c .1);
+          clean = stripped-clean L (itemAt (L .children e))
+              (λ k. notWhitespace L (itemAt (L .children e) k)) (λ k m. m);
+          known = λ k x d i. let c = child-element J strings nodes e x h (item-member (L .children e) k x i) in
+              known x d (c .0) (c .1);
         }
 
         abbrev Bare : List Item → Type 0
-        Bare m = (bareTest L (matchTest pair) (L .attributes e) p m ≡ true) ↔ WeakMatch L Not (L .attributes e) m (L .pattern p)
+        Bare m =
+            (bareTest L (matchTest pair) (L .attributes e) p m ≡ true)
+            ↔ WeakMatch L Not (L .attributes e) m (L .pattern p)
 
-        alone : (x : List ℕ) → (stringTest (matchTest pair) (L .attributes e) p x ≡ true) ↔ Match L Not (L .attributes e) (string x ∷ []) (L .pattern p)
+        alone : (x : List ℕ) → (stringTest (matchTest pair) (L .attributes e) p x ≡ true)
+            ↔ Match L Not (L .attributes e) (string x ∷ []) (L .pattern p)
         alone x = string-decided L R (nodesOf t) equalTest pair equals decided (L .attributes e) bound distinct p x l
 
-        nothing : (nothingTest (matchTest pair) (L .attributes e) p ≡ true) ↔ Match L Not (L .attributes e) [] (L .pattern p)
+        nothing : (nothingTest (matchTest pair) (L .attributes e) p ≡ true)
+            ↔ Match L Not (L .attributes e) [] (L .pattern p)
         nothing = nothing-decided L R (nodesOf t) equalTest pair equals decided (L .attributes e) bound distinct p l
 
         bare-none : Bare []
         bare-none =
-            Iff·trans (either-decides (nothingTest (matchTest pair) (L .attributes e) p) (stringTest (matchTest pair) (L .attributes e) p []) nothing (alone []))
+            Iff·trans (either-decides (nothingTest (matchTest pair) (L .attributes e) p)
+            (stringTest (matchTest pair) (L .attributes e) p []) nothing (alone []))
             (Iff·symm (weak-empty L Not (L .attributes e) (L .pattern p)))
 
         bare-one : (x : List ℕ) → Bare (string x ∷ [])
         bare-one x =
-            Iff·trans (either-decides (stringTest (matchTest pair) (L .attributes e) p x) (L .whitespace x && nothingTest (matchTest pair) (L .attributes e) p) (alone x)
+            Iff·trans (either-decides (stringTest (matchTest pair) (L .attributes e) p x)
+            (L .whitespace x && nothingTest (matchTest pair) (L .attributes e) p) (alone x)
             (both-decide (L .whitespace x) (nothingTest (matchTest pair) (L .attributes e) p) Iff·rfl nothing))
             (Iff·symm (weak-string L Not (L .attributes e) (L .pattern p) x))
 
-        weak-decided : (weakTest L (matchTest pair) (L .attributes e) p (L .children e) ≡ true) ↔ WeakMatch L Not (L .attributes e) (L .children e) (L .pattern p)
+        weak-decided : (weakTest L (matchTest pair) (L .attributes e) p (L .children e) ≡ true)
+            ↔ WeakMatch L Not (L .attributes e) (L .children e) (L .pattern p)
         weak-decided = go (hasElement (L .children e)) refl
           where
             ok : OkAsChildren (L .children e)
@@ -148,12 +169,16 @@ module _ (J : Tables) where
 
             go : (b : Bool) → hasElement (L .children e) ≡ b
                 → (elim b [
-                  | true ↦ matchTest pair (itemAt (L .children e)) (L .attributes e) (λ k. notWhitespace L (itemAt (L .children e) k)) p 0 (length (L .children e))
+                  | true ↦ matchTest pair (itemAt (L .children e)) (L .attributes e)
+                      (λ k. notWhitespace L (itemAt (L .children e) k)) p 0 (length (L .children e))
                   | false ↦ bareTest L (matchTest pair) (L .attributes e) p (L .children e)
                 ] ≡ true) ↔ WeakMatch L Not (L .attributes e) (L .children e) (L .pattern p)
             go true f =
-                Iff·trans (decided (itemAt (L .children e)) (L .attributes e) (λ k. notWhitespace L (itemAt (L .children e) k)) p 0 (length (L .children e)) l fits)
-                (Iff·symm (weak-span L Not (L .attributes e) p sequential ok f (itemAt (L .children e)) (λ k. notWhitespace L (itemAt (L .children e) k)) (length (L .children e)) (run-list (notWhitespace L) (string []) (L .children e))))
+                Iff·trans (decided (itemAt (L .children e)) (L .attributes e)
+                (λ k. notWhitespace L (itemAt (L .children e) k)) p 0 (length (L .children e)) l fits)
+                (Iff·symm (weak-span L Not (L .attributes e) p sequential ok f
+                (itemAt (L .children e)) (λ k. notWhitespace L (itemAt (L .children e) k))
+                (length (L .children e)) (run-list (notWhitespace L) (string []) (L .children e))))
             go false f =
                 elim (no-element ok f) [
                   | inl z ↦ subst Bare (sym z) bare-none
@@ -166,29 +191,42 @@ module _ (J : Tables) where
     content-row d h =
         let k = definition-kind s d h in
         let i = in-table (right-size (pass .rows)) {r = d} (λ z. omega (arith, k, z)) in
-        let c = child-less {s = s} {p = d} (by-b (pattern-b (schemaStrings (J .strings)) s (pass .rows) d i kind.element k refl .0) refl) in
+        let c = child-less {s = s} {p = d}
+        (by-b (pattern-b (schemaStrings (J .strings)) s (pass .rows) d i kind.element k refl .0) refl) in
         omega arith
 
     pub pair-decided : (n e d : ℕ) → e < nodesOf t → nodesOf t - e ≤ n → (pairTest n e d ≡ true) ↔ Paired L Not e d
     unfolding pairTest
     pair-decided zero e d h l = absurd (omega arith)
-    pair-decided (suc n) e d h l = go (L .isDefinition d && L .inClass (L .nameClass d) e) refl (λ x c i j. pair-decided n x c j (omega arith))
+    pair-decided (suc n) e d h l =
+        go (L .isDefinition d && L .inClass (L .nameClass d) e) refl (λ x c i j. pair-decided n x c j (omega arith))
       where
-        go : (b : Bool) → (L .isDefinition d && L .inClass (L .nameClass d) e) ≡ b → ((x c : ℕ) → e < x → x < nodesOf t → (pairTest n x c ≡ true) ↔ Paired L Not x c)
-            → (elim b [ true ↦ weakTest L (matchTest (pairTest n)) (L .attributes e) (L .content d) (L .children e) | false ↦ false ] ≡ true) ↔ Paired L Not e d
+        go : (b : Bool) → (L .isDefinition d && L .inClass (L .nameClass d) e) ≡ b
+            → ((x c : ℕ) → e < x → x < nodesOf t → (pairTest n x c ≡ true) ↔ Paired L Not x c)
+            → (elim b [
+              | true ↦ weakTest L (matchTest (pairTest n)) (L .attributes e) (L .content d) (L .children e)
+              | false ↦ false
+            ] ≡ true) ↔ Paired L Not e d
         go true f known =
             let a = and-left (L .isDefinition d) (L .inClass (L .nameClass d) e) f in
             let w = weak-decided (pairTest n) e h known (L .content d) (content-row d a) (R .contents d a) in (
-              λ i. record { defined = a; ordered = children-ok J strings nodes e; named = and-right (L .isDefinition d) (L .inClass (L .nameClass d) e) f; content = w .0 i },
+              λ i. record {
+                defined = a;
+                ordered = children-ok J strings nodes e;
+                named = and-right (L .isDefinition d) (L .inClass (L .nameClass d) e) f;
+                content = w .0 i;
+              },
               λ q. w .1 (q .content),
             )
-        go false f known = (λ i. absurd (false≢true i), λ q. absurd (true≢false (sym (both-and (q .defined) (q .named)) ∙ f)))
+        go false f known =
+            (λ i. absurd (false≢true i), λ q. absurd (true≢false (sym (both-and (q .defined) (q .named)) ∙ f)))
 
     pub valid-decided : 0 < nodesOf t → (validTest ≡ true) ↔ Valid J
     unfolding validTest run
     valid-decided h =
         let c = child-less (start-child pass) in
-        Iff·trans (decided (pairTest (nodesOf t)) (λ k. element 0) noAttributes all (schema.aOf s (startRow J)) 0 1 (omega arith) root-fits)
+        Iff·trans (decided (pairTest (nodesOf t)) (λ k. element 0) noAttributes all
+        (schema.aOf s (startRow J)) 0 1 (omega arith) root-fits)
         (span-whole L Not noAttributes (λ k. element 0) all (schema.aOf s (startRow J)) 1 refl)
       where
         clash : {x : List ℕ} → element 0 ≡ string x → ⊥
@@ -202,5 +240,6 @@ module _ (J : Tables) where
           bound = λ x i. absurd (false≢true i);
           distinct = λ x y i. absurd (false≢true i);
           clean = λ i k x m a e b f. absurd (clash f);
-          known = λ k x d i. subst (λ (y : ℕ). (pairTest (nodesOf t) y d ≡ true) ↔ Paired L Not y d) (sym (same i)) (pair-decided (nodesOf t) 0 d h (omega arith));
+          known = λ k x d i. subst (λ (y : ℕ). (pairTest (nodesOf t) y d ≡ true) ↔ Paired L Not y d)
+              (sym (same i)) (pair-decided (nodesOf t) 0 d h (omega arith));
         }

@@ -10,11 +10,13 @@ use borrow.Author.Tests.{eqb-true, eq-eqb, lt-ltb, ltb-true}
 use Rattle.schema.specs.Kinds as kind
 use Rattle.schema.specs.Rows.{rowsOf, kindOf, shapeOf}
 use Rattle.schema.specs.Relations.{Child, by-a, by-b, Below, child, deeper}
-use Rattle.schema.specs.RowRule.{maxRows, usesBefore, rowRight, SizeFault, no-row, too-many-rows, broken-length, bad-size, bad-row, RowsRight}
+use Rattle.schema.specs.RowRule.{maxRows, usesBefore, rowRight, SizeFault, no-row}
+use Rattle.schema.specs.RowRule.{too-many-rows, broken-length, bad-size, bad-row, RowsRight}
 use Rattle.schema.proofs.RowLaws.{in-table, right-size}
 use Rattle.schema_places.specs.Places.{holdsWhole, emptyFits, PlaceFault, notAllowed-inside, empty-inside}
 use Rattle.schema_places.specs.Names.{NameFault, anyName-in-anyName, anyName-in-nsName, nsName-in-nsName}
-use Rattle.schema_places.specs.Paths.{sharingKind, notInAttribute, notInList, notInExcept, notInStart, PathFault, in-attribute, in-repeated-sharing, in-list, in-except, in-start}
+use Rattle.schema_places.specs.Paths.{sharingKind, notInAttribute, notInList, notInExcept, notInStart, PathFault}
+use Rattle.schema_places.specs.Paths.{in-attribute, in-repeated-sharing, in-list, in-except, in-start}
 use Rattle.tables.proofs.Booleans.{or-left, or-right, and-left, and-right, both-and}
 use Rattle.cases.proofs.Tests.{everyBelow, every-below, no-of}
 use Rattle.cases.proofs.DescentTests.{childTest, child-test, belowTest, below-test}
@@ -32,24 +34,33 @@ module _ (strings : ℕ) (s : List ℕ) where
 
   pub rows-right : rowsTest ≡ true → RowsRight strings s
   unfolding rowsTest
-  rows-right pass r (bad-row f) = true≢false (sym (every-below rowTest (rowsOf s) (and-right sizeTest (everyBelow rowTest (rowsOf s)) pass) r (f .0)) ∙ f .1)
+  rows-right pass r (bad-row f) =
+      true≢false
+      (sym (every-below rowTest (rowsOf s) (and-right sizeTest (everyBelow rowTest (rowsOf s)) pass) r (f .0)) ∙ f .1)
   rows-right pass r (bad-size f) = go (and-left sizeTest (everyBelow rowTest (rowsOf s)) pass) f
     where
       go : sizeTest ≡ true → ¬ SizeFault s r
-      go e (no-row f z) = let l = ltb-true 0 (rowsOf s) (and-left (ltb 0 (rowsOf s)) (not (ltb maxRows (rowsOf s)) && eqb (length s % 3) 0) e) in omega arith
+      go e (no-row f z) =
+          let l = ltb-true 0 (rowsOf s)
+          (and-left (ltb 0 (rowsOf s)) (not (ltb maxRows (rowsOf s)) && eqb (length s % 3) 0) e) in
+          omega arith
       go e (too-many-rows h z) =
-          no-of (and-left (not (ltb maxRows (rowsOf s))) (eqb (length s % 3) 0) (and-right (ltb 0 (rowsOf s)) (not (ltb maxRows (rowsOf s)) && eqb (length s % 3) 0) e)) (lt-ltb maxRows (rowsOf s) h)
+          no-of (and-left (not (ltb maxRows (rowsOf s))) (eqb (length s % 3) 0) (and-right (ltb 0 (rowsOf s))
+          (not (ltb maxRows (rowsOf s)) && eqb (length s % 3) 0) e)) (lt-ltb maxRows (rowsOf s) h)
       go e (broken-length f z) =
-          f (eqb-true (length s % 3) 0 (and-right (not (ltb maxRows (rowsOf s))) (eqb (length s % 3) 0) (and-right (ltb 0 (rowsOf s)) (not (ltb maxRows (rowsOf s)) && eqb (length s % 3) 0) e)))
+          f (eqb-true (length s % 3) 0 (and-right (not (ltb maxRows (rowsOf s))) (eqb (length s % 3) 0)
+          (and-right (ltb 0 (rowsOf s)) (not (ltb maxRows (rowsOf s)) && eqb (length s % 3) 0) e)))
 
 -- a row of kind k may not stand below one of kind j: the name class constraint, and the prohibited paths but for the
 -- one through two rows
 abbrev pub prohibitedName : ℕ → ℕ → Bool
-prohibitedName j k = eqb j kind.anyName && eqb k kind.anyName || eqb j kind.nsName && (eqb k kind.anyName || eqb k kind.nsName)
+prohibitedName j k =
+    eqb j kind.anyName && eqb k kind.anyName || eqb j kind.nsName && (eqb k kind.anyName || eqb k kind.nsName)
 
 abbrev pub prohibitedPath : ℕ → ℕ → Bool
 prohibitedPath j k =
-    eqb j kind.attribute && notInAttribute k || (eqb j kind.list && notInList k || (eqb j kind.«data» && notInExcept k || eqb j kind.start && notInStart k))
+    eqb j kind.attribute && notInAttribute k
+    || (eqb j kind.list && notInList k || (eqb j kind.«data» && notInExcept k || eqb j kind.start && notInStart k))
 
 -- no row has one below it that the test finds at odds with it
 unfoldable pub noneBelow : List ℕ → (ℕ → ℕ → Bool) → Bool
@@ -58,7 +69,9 @@ noneBelow s t = everyBelow (λ p. not (belowTest s (t p) (rowsOf s) p)) (rowsOf 
 module _ (s : List ℕ) where
   -- code 3
   abbrev misplaced : ℕ → ℕ → Bool
-  misplaced p r = eqb (kindOf s r) kind.notAllowed && not (holdsWhole (kindOf s p)) || eqb (kindOf s r) kind.empty && not (emptyFits s p r)
+  misplaced p r =
+      eqb (kindOf s r) kind.notAllowed && not (holdsWhole (kindOf s p))
+      || eqb (kindOf s r) kind.empty && not (emptyFits s p r)
 
   unfoldable pub placesTest : Bool
   placesTest = everyBelow (λ p. not (childTest s (misplaced p) p)) (rowsOf s)
@@ -98,18 +111,25 @@ module _ (s : List ℕ) where
     unfolding noneBelow
     none-below t pass {r} {p} b h =
         let l = above-row b in
-        no-of (every-below (λ p. not (belowTest s (t p) (rowsOf s) p)) (rowsOf s) pass p l) (below-test s (t p) (rowsOf s) (omega arith) b h)
+        no-of (every-below (λ p. not (belowTest s (t p) (rowsOf s) p)) (rowsOf s) pass p l)
+        (below-test s (t p) (rowsOf s) (omega arith) b h)
 
     pub places-right : placesTest ≡ true → (r : ℕ) → ¬ PlaceFault s r
     unfolding placesTest
     places-right pass r f = go f
       where
         none : (p : ℕ) → Child s r p → ¬ (misplaced p r ≡ true)
-        none p c h = no-of (every-below (λ p. not (childTest s (misplaced p) p)) (rowsOf s) pass p (parent-row c)) (child-test s (misplaced p) c h)
+        none p c h =
+            no-of (every-below (λ p. not (childTest s (misplaced p) p)) (rowsOf s) pass p (parent-row c))
+            (child-test s (misplaced p) c h)
 
         go : ¬ PlaceFault s r
-        go (notAllowed-inside p k c h) = none p c (or-left (eqb (kindOf s r) kind.empty && not (emptyFits s p r)) (both-and (eq-eqb _ _ k) (ap not h)))
-        go (empty-inside p k c h) = none p c (or-right (eqb (kindOf s r) kind.notAllowed && not (holdsWhole (kindOf s p))) (both-and (eq-eqb _ _ k) (ap not h)))
+        go (notAllowed-inside p k c h) =
+            none p c
+            (or-left (eqb (kindOf s r) kind.empty && not (emptyFits s p r)) (both-and (eq-eqb _ _ k) (ap not h)))
+        go (empty-inside p k c h) =
+            none p c (or-right (eqb (kindOf s r) kind.notAllowed && not (holdsWhole (kindOf s p)))
+            (both-and (eq-eqb _ _ k) (ap not h)))
 
     pub names-right : namesTest ≡ true → (r : ℕ) → ¬ NameFault s r
     unfolding namesTest
@@ -138,4 +158,5 @@ module _ (s : List ℕ) where
         go (in-repeated-sharing p q k h b i c) =
             let l = above-row b in
             none-below repeatedSharing (and-right (noneBelow s prohibited) (noneBelow s repeatedSharing) pass) c
-            (both-and (eq-eqb _ _ i) (both-and h (below-test s (λ r. eqb (kindOf s r) kind.attribute) (rowsOf s) (omega arith) b (eq-eqb _ _ k))))
+            (both-and (eq-eqb _ _ i) (both-and h
+            (below-test s (λ r. eqb (kindOf s r) kind.attribute) (rowsOf s) (omega arith) b (eq-eqb _ _ k))))

@@ -3,9 +3,11 @@ use Prim.Native.Nat.{ℕ, zero, suc, _<_}
 use mathlib.Core.Path.{_≡_, refl, sym, _∙_, ap, subst}
 use mathlib.Core.Bool.{Bool, true, false, false≢true}
 use native.Mathlib.Omega.{arith}
-use Rattle.schema.specs.Views.{Pattern, empty, notAllowed, text, dataAll, dataExcept, value, list, attribute, ref, oneOrMore, choice, group, interleave, noPattern}
+use Rattle.schema.specs.Views.{Pattern, empty, notAllowed, text, dataAll, dataExcept, value, list}
+use Rattle.schema.specs.Views.{attribute, ref, oneOrMore, choice, group, interleave, noPattern}
 use Rattle.matching_rules.specs.Items.{Lookups}
-use Rattle.matching_rules.specs.Reach.{Operand, repeated, choice-first, choice-second, group-first, group-second, interleave-first, interleave-second, operand, Reaches, here, there}
+use Rattle.matching_rules.specs.Reach.{Operand, repeated, choice-first, choice-second, group-first, group-second}
+use Rattle.matching_rules.specs.Reach.{interleave-first, interleave-second, operand, Reaches, here, there}
 use Rattle.matching_rules.specs.Restricted.{Restricted}
 
 -- an operand passes the test
@@ -47,7 +49,8 @@ operand-test t (group-second {p = p} {q = q}) h = either-second t p q h
 operand-test t (interleave-first {p = p} {q = q}) h = either-first t p q h
 operand-test t (interleave-second {p = p} {q = q}) h = either-second t p q h
 
-one-of : (t : ℕ → Bool) {x : Pattern} (p q : ℕ) → Operand p x → Operand q x → either t p q ≡ true → (r : ℕ) × Operand r x × (t r ≡ true)
+one-of : (t : ℕ → Bool) {x : Pattern} (p q : ℕ) → Operand p x → Operand q x
+    → either t p q ≡ true → (r : ℕ) × Operand r x × (t r ≡ true)
 one-of t {x} p q a b = go (t p) refl
   where
     go : (c : Bool) → t p ≡ c → elim c [ true ↦ true | false ↦ t q ] ≡ true → (r : ℕ) × Operand r x × (t r ≡ true)
@@ -81,18 +84,24 @@ module _ (L : Lookups) (test : Pattern → Bool) where
   test-reach zero p h = absurd (false≢true h)
   test-reach (suc n) p h = go (test (L .pattern p)) refl h (test-reach n)
     where
-      go : (b : Bool) → test (L .pattern p) ≡ b → elim b [ true ↦ true | false ↦ operandTest (reachTest n) (L .pattern p) ] ≡ true
+      go : (b : Bool) → test (L .pattern p) ≡ b
+          → elim b [ true ↦ true | false ↦ operandTest (reachTest n) (L .pattern p) ] ≡ true
           → ((r : ℕ) → reachTest n r ≡ true → Reaches L test (L .pattern r)) → Reaches L test (L .pattern p)
       go true f h rest = here f
-      go false f h rest = let o = test-operand (reachTest n) (L .pattern p) h in there (o .0) (o .1) (rest (o .0) (o .2))
+      go false f h rest =
+          let o = test-operand (reachTest n) (L .pattern p) h in
+          there (o .0) (o .1) (rest (o .0) (o .2))
 
   module _ (R : Restricted L) where
     pub reach-test : (n p : ℕ) {x : Pattern} → p < n → L .pattern p ≡ x → Reaches L test x → reachTest n p ≡ true
     unfolding reachTest
     reach-test zero p l e h = absurd (omega arith)
     reach-test (suc n) p l e (here h) = rw (ap test e ∙ h, reachTest)
-    reach-test (suc n) p {x} l e (there r o h) = go (test (L .pattern p)) (reach-test n r (let f = R .falls p r (operand (subst (Operand r) (sym e) o)) in omega arith) refl h)
+    reach-test (suc n) p {x} l e (there r o h) =
+        go (test (L .pattern p))
+        (reach-test n r (let f = R .falls p r (operand (subst (Operand r) (sym e) o)) in omega arith) refl h)
       where
-        go : (b : Bool) → reachTest n r ≡ true → elim b [ true ↦ true | false ↦ operandTest (reachTest n) (L .pattern p) ] ≡ true
+        go : (b : Bool) → reachTest n r ≡ true
+            → elim b [ true ↦ true | false ↦ operandTest (reachTest n) (L .pattern p) ] ≡ true
         go true i = refl
         go false i = operand-test (reachTest n) (subst (Operand r) (sym e) o) i

@@ -27,9 +27,11 @@ use Rattle.relaxng.specs.Promises.{SchemaRefusal}
 use Rattle.tables.proofs.Booleans.{and-left, and-right}
 use Rattle.cases.proofs.Tests.{everyBelow, every-below}
 use Rattle.cases.proofs.StringTests.{stringsTest, strings-right}
-use Rattle.cases.proofs.PlaceTests.{rowsTest, rows-right, placesTest, places-right, namesTest, names-right, pathsTest, paths-right}
+use Rattle.cases.proofs.PlaceTests.{rowsTest, rows-right, placesTest, places-right}
+use Rattle.cases.proofs.PlaceTests.{namesTest, names-right, pathsTest, paths-right}
 use Rattle.cases.proofs.ContentTests.{sequenceTest, sequence-test}
-use Rattle.cases.proofs.RestrictionTests.{attributesTest, attributes-right, duplicateTest, attribute-fault, interleaveTest, interleave-right, interleave-fault}
+use Rattle.cases.proofs.RestrictionTests.{attributesTest, attributes-right, duplicateTest, attribute-fault}
+use Rattle.cases.proofs.RestrictionTests.{interleaveTest, interleave-right, interleave-fault}
 
 module _ (T : StringTable) (s : List ℕ) where
   abbrev strings : ℕ
@@ -76,14 +78,19 @@ module _ (T : StringTable) (s : List ℕ) where
       ]
 
   strings-pass : placed ≡ true → StringsRight T
-  strings-pass pass = strings-right T (and-left (stringsTest T) (rowsTest strings s) (and-left tablesTest (placesTest s && pathTests) pass))
+  strings-pass pass =
+      strings-right T
+      (and-left (stringsTest T) (rowsTest strings s) (and-left tablesTest (placesTest s && pathTests) pass))
 
   rows-pass : placed ≡ true → RowsRight strings s
-  rows-pass pass = rows-right strings s (and-right (stringsTest T) (rowsTest strings s) (and-left tablesTest (placesTest s && pathTests) pass))
+  rows-pass pass =
+      rows-right strings s
+      (and-right (stringsTest T) (rowsTest strings s) (and-left tablesTest (placesTest s && pathTests) pass))
 
   -- codes 1 to 5 go on
   goes-placed : {next : Verdict → Type 0} {v : Verdict} → placed ≡ true → Tries 6 (SequenceFault s) next v
-      → Tries 1 (StringFault T) (Tries 2 (RowFault strings s) (Tries 3 (PlaceFault s) (Tries 4 (NameFault s) (Tries 5 (PathFault s) (Tries 6 (SequenceFault s) next))))) v
+      → Tries 1 (StringFault T) (Tries 2 (RowFault strings s)
+      (Tries 3 (PlaceFault s) (Tries 4 (NameFault s) (Tries 5 (PathFault s) (Tries 6 (SequenceFault s) next))))) v
   goes-placed pass rest =
       let right = rows-pass pass in
       let places = and-right tablesTest (placesTest s && pathTests) pass in
@@ -96,7 +103,8 @@ module _ (T : StringTable) (s : List ℕ) where
 
   -- what a test of each row before n shows of a code
   sequences-right : placed ≡ true → (n : ℕ) → everyBelow sequenceRight n ≡ true → Clear (SequenceFault s) n
-  sequences-right pass n e r h f = go (sequenceTest s r) (sequence-test s (right-size (rows-pass pass)) r) (every-below sequenceRight n e r h)
+  sequences-right pass n e r h f =
+      go (sequenceTest s r) (sequence-test s (right-size (rows-pass pass)) r) (every-below sequenceRight n e r h)
     where
       go : (b : Bool) → Decides (SequenceFault s r) b → ¬ (not b ≡ true)
       go true d i = false≢true i
@@ -117,7 +125,9 @@ module _ (T : StringTable) (s : List ℕ) where
     right-7 = rows-pass (placed-of (rowsOf s) sequenced-of)
 
     clear-7 : Clear (AttributeFault s) n
-    clear-7 r h = attributes-right strings s right-7 r (every-below (attributesTest strings s) n (and-right (sequenced (rowsOf s)) (everyBelow (attributesTest strings s) n) pass) r h)
+    clear-7 r h =
+        attributes-right strings s right-7 r (every-below (attributesTest strings s) n
+        (and-right (sequenced (rowsOf s)) (everyBelow (attributesTest strings s) n) pass) r h)
 
     none-6 : (r : ℕ) → ¬ SequenceFault s r
     none-6 r f = clear-6 (rowsOf s) sequenced-of r (sequence-row (right-size right-7) f) f
@@ -130,7 +140,9 @@ module _ (T : StringTable) (s : List ℕ) where
     right-8 = right-7 (rowsOf s) attributed-of
 
     clear-8 : Clear (InterleaveFault s) n
-    clear-8 r h = interleave-right strings s right-8 r (every-below noSharing n (and-right (attributed (rowsOf s)) (everyBelow noSharing n) pass) r h)
+    clear-8 r h =
+        interleave-right strings s right-8 r
+        (every-below noSharing n (and-right (attributed (rowsOf s)) (everyBelow noSharing n) pass) r h)
 
     none-7 : (r : ℕ) → ¬ AttributeFault s r
     none-7 r f = clear-7 (rowsOf s) attributed-of r (attribute-row (right-size right-8) f) f
@@ -150,7 +162,9 @@ module _ (T : StringTable) (s : List ℕ) where
       (goes-on (λ r f. clear-8 (rowsOf s) pass r (interleave-row (right-size (right-8 (rowsOf s) pass)) f) f) refl)))
 
   refused-6 : (r : ℕ) → (sequenced r && sequenceTest s r) ≡ true → SchemaRefusal T s Passes (Refused 6 r)
-  refused-6 r e = goes-placed (placed-of r pass) (refused r (go (sequenceTest s r) (sequence-test s (right-size (rows-pass (placed-of r pass))) r) (and-right (sequenced r) (sequenceTest s r) e)) (clear-6 r pass))
+  refused-6 r e =
+      goes-placed (placed-of r pass) (refused r (go (sequenceTest s r) (sequence-test s
+      (right-size (rows-pass (placed-of r pass))) r) (and-right (sequenced r) (sequenceTest s r) e)) (clear-6 r pass))
     where
       pass : sequenced r ≡ true
       pass = and-left (sequenced r) (sequenceTest s r) e
@@ -162,19 +176,22 @@ module _ (T : StringTable) (s : List ℕ) where
   refused-7 : (r : ℕ) → (attributed r && duplicateTest strings s r) ≡ true → SchemaRefusal T s Passes (Refused 7 r)
   refused-7 r e =
       let pass = and-left (attributed r) (duplicateTest strings s r) e in
-      goes-placed (placed-7 r pass) (goes-on (none-6 r pass) (refused r (attribute-fault strings s r (and-right (attributed r) (duplicateTest strings s r) e)) (clear-7 r pass)))
+      goes-placed (placed-7 r pass) (goes-on (none-6 r pass) (refused r
+      (attribute-fault strings s r (and-right (attributed r) (duplicateTest strings s r) e)) (clear-7 r pass)))
 
   refused-8 : (r : ℕ) → (interleaved r && interleaveTest strings s r) ≡ true → SchemaRefusal T s Passes (Refused 8 r)
   refused-8 r e =
       let pass = and-left (interleaved r) (interleaveTest strings s r) e in
       let a = attributed-of r pass in
-      goes-placed (placed-7 (rowsOf s) a) (goes-on (none-6 (rowsOf s) a) (goes-on (none-7 r pass) (refused r (interleave-fault strings s r (and-right (interleaved r) (interleaveTest strings s r) e)) (clear-8 r pass))))
+      goes-placed (placed-7 (rowsOf s) a) (goes-on (none-6 (rowsOf s) a) (goes-on (none-7 r pass) (refused r
+      (interleave-fault strings s r (and-right (interleaved r) (interleaveTest strings s r) e)) (clear-8 r pass))))
 
   pub schema-refused : (code r : ℕ) → refusedTest code r ≡ true → SchemaRefusal T s Passes (Refused code r)
   unfolding refusedTest
   schema-refused code r = go (eqb code 6) refl (eqb code 7) refl (eqb code 8) refl
     where
-      named : (n : ℕ) → eqb code n ≡ true → SchemaRefusal T s Passes (Refused n r) → SchemaRefusal T s Passes (Refused code r)
+      named : (n : ℕ) → eqb code n ≡ true → SchemaRefusal T s Passes (Refused n r)
+          → SchemaRefusal T s Passes (Refused code r)
       named n e v = subst (λ (k : ℕ). SchemaRefusal T s Passes (Refused k r)) (sym (eqb-true code n e)) v
 
       go : (a : Bool) → eqb code 6 ≡ a → (b : Bool) → eqb code 7 ≡ b → (c : Bool) → eqb code 8 ≡ c

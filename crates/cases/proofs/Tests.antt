@@ -14,7 +14,8 @@ unfolding everyBelow
 every-below t zero e k h = absurd (omega arith)
 every-below t (suc n) e k h = go (t n) refl e (ℕ-discrete k n) (λ i. every-below t n i k)
   where
-    go : (b : Bool) → t n ≡ b → elim b [ true ↦ everyBelow t n | false ↦ false ] ≡ true → Dec (k ≡ n) → (everyBelow t n ≡ true → k < n → t k ≡ true) → t k ≡ true
+    go : (b : Bool) → t n ≡ b → elim b [ true ↦ everyBelow t n | false ↦ false ] ≡ true
+        → Dec (k ≡ n) → (everyBelow t n ≡ true → k < n → t k ≡ true) → t k ≡ true
     go true f i (yes z) rest = ap t z ∙ f
     go true f i (no z) rest = rest i (omega arith)
     go false f i d rest = absurd (false≢true i)
@@ -33,7 +34,8 @@ unfolding someBelow
 some-below t zero k h e = absurd (omega arith)
 some-below t (suc n) k h e = go (t n) refl (ℕ-discrete k n) (λ i. some-below t n k i e)
   where
-    go : (b : Bool) → t n ≡ b → Dec (k ≡ n) → (k < n → someBelow t n ≡ true) → elim b [ true ↦ true | false ↦ someBelow t n ] ≡ true
+    go : (b : Bool) → t n ≡ b → Dec (k ≡ n) → (k < n → someBelow t n ≡ true)
+        → elim b [ true ↦ true | false ↦ someBelow t n ] ≡ true
     go true f d rest = refl
     go false f (yes z) rest = absurd (true≢false (sym e ∙ ap t z ∙ f))
     go false f (no z) rest = rest (omega arith)
@@ -43,7 +45,8 @@ unfolding someBelow
 below-some t zero e = absurd (false≢true e)
 below-some t (suc n) e = go (t n) refl e (below-some t n)
   where
-    go : (b : Bool) → t n ≡ b → elim b [ true ↦ true | false ↦ someBelow t n ] ≡ true → (someBelow t n ≡ true → (k : ℕ) × (k < n) × (t k ≡ true)) → (k : ℕ) × (k < suc n) × (t k ≡ true)
+    go : (b : Bool) → t n ≡ b → elim b [ true ↦ true | false ↦ someBelow t n ] ≡ true
+        → (someBelow t n ≡ true → (k : ℕ) × (k < n) × (t k ≡ true)) → (k : ℕ) × (k < suc n) × (t k ≡ true)
     go true f i rest = (n, omega arith, f)
     go false f i rest = let x = rest i in let l = x .1 in (x .0, omega arith, x .2)
 

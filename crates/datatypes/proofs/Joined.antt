@@ -6,10 +6,12 @@ use mathlib.Core.Logic.{_↔_}
 use mathlib.Core.List.{List, [], _∷_, _++_}
 use Prim.Native.Nat.{ℕ}
 use native.Mathlib.Omega.{arith}
-use Rattle.datatypes.specs.Whitespace.{space, whitespace, spaceFirst, trimStart, trimEnd, collapse, normalizeWhiteSpace, tokenEqual}
+use Rattle.datatypes.specs.Whitespace.{space, whitespace, spaceFirst, trimStart, trimEnd}
+use Rattle.datatypes.specs.Whitespace.{collapse, normalizeWhiteSpace, tokenEqual}
 use Rattle.datatypes.specs.Split.{Token, prefixed, split}
 use Rattle.datatypes.proofs.Normal.{blank, kept}
-use Rattle.datatypes.proofs.Splits.{Tokens, tokens-none, tokens-more, split-tokens, split-trimmed, Delimits, by-end, by-space, split-front, split-token, split-first}
+use Rattle.datatypes.proofs.Splits.{Tokens, tokens-none, tokens-more, split-tokens, split-trimmed}
+use Rattle.datatypes.proofs.Splits.{Delimits, by-end, by-space, split-front, split-token, split-first}
 
 -- one #x20 before each
 abbrev pub behind : List (List ℕ) → List ℕ
@@ -42,14 +44,17 @@ ended-first [] w = refl
 ended-first (c ∷ s) w = rw w
 
 -- a whitespace character before something else leaves one #x20, unless another follows it
-run-first : (c : ℕ) (s : List ℕ) → space c ≡ true → whitespace s ≡ false → collapse (trimEnd (c ∷ s)) ≡ cond (spaceFirst s) (collapse (trimEnd s)) (0x20 ∷ collapse (trimEnd s))
+run-first : (c : ℕ) (s : List ℕ) → space c ≡ true → whitespace s ≡ false
+    → collapse (trimEnd (c ∷ s)) ≡ cond (spaceFirst s) (collapse (trimEnd s)) (0x20 ∷ collapse (trimEnd s))
 run-first c s e w = simp (e, w, ended-first s w)
 
-behind-joined : (s : List ℕ) → whitespace s ≡ false → cond (spaceFirst s) (formed s) (0x20 ∷ formed s) ≡ behind (split s)
+behind-joined : (s : List ℕ) → whitespace s ≡ false
+    → cond (spaceFirst s) (formed s) (0x20 ∷ formed s) ≡ behind (split s)
 behind-joined [] w = let z : _≡_ {A = ℕ} 0 1 = cc in absurd (omega arith)
 behind-joined (c ∷ s) w = go (space c) refl
   where
-    go : (b : Bool) → space c ≡ b → cond (spaceFirst (c ∷ s)) (formed (c ∷ s)) (0x20 ∷ formed (c ∷ s)) ≡ behind (split (c ∷ s))
+    go : (b : Bool) → space c ≡ b
+        → cond (spaceFirst (c ∷ s)) (formed (c ∷ s)) (0x20 ∷ formed (c ∷ s)) ≡ behind (split (c ∷ s))
     go true e = simp e
     go false e =
         let first = split-first c s e in
@@ -61,7 +66,8 @@ collapsed : (s : List ℕ) → collapse (trimEnd s) ≡ formed s
 collapsed [] = refl
 collapsed (c ∷ s) = go (collapsed s) (space c) (whitespace s) (spaceFirst s) refl refl refl
   where
-    go : collapse (trimEnd s) ≡ formed s → (b w f : Bool) → space c ≡ b → whitespace s ≡ w → spaceFirst s ≡ f → collapse (trimEnd (c ∷ s)) ≡ formed (c ∷ s)
+    go : collapse (trimEnd s) ≡ formed s → (b w f : Bool) → space c ≡ b → whitespace s ≡ w
+        → spaceFirst s ≡ f → collapse (trimEnd (c ∷ s)) ≡ formed (c ∷ s)
     go ih true true f e g i = blank c s e g ∙ rw (e, blank-split s g) refl
     go ih true false f e g i = run-first c s e g ∙ rw (ih, e) (behind-joined s g)
     go ih false w true e g i = kept c s e ∙ rw (ih, e, i) refl
@@ -86,12 +92,14 @@ behind-delimits (t ∷ ts) = by-space refl
 split-behind : {ts : List (List ℕ)} → Tokens ts → split (behind ts) ≡ ts
 unfolding space
 split-behind tokens-none = refl
-split-behind (tokens-more {t} {ts} k all) = split-front k (behind-delimits ts) ∙ ap (λ (l : List (List ℕ)). t ∷ l) (split-behind all)
+split-behind (tokens-more {t} {ts} k all) =
+    split-front k (behind-delimits ts) ∙ ap (λ (l : List (List ℕ)). t ∷ l) (split-behind all)
 
 -- joined tokens split into the same again
 pub split-again : {ts : List (List ℕ)} → Tokens ts → split (joined ts) ≡ ts
 split-again tokens-none = refl
-split-again (tokens-more {t} {ts} k all) = split-front k (behind-delimits ts) ∙ ap (λ (l : List (List ℕ)). t ∷ l) (split-behind all)
+split-again (tokens-more {t} {ts} k all) =
+    split-front k (behind-delimits ts) ∙ ap (λ (l : List (List ℕ)). t ∷ l) (split-behind all)
 
 split-normalized : (s : List ℕ) → split (normalizeWhiteSpace s) ≡ split s
 split-normalized s = ap split (normalized s) ∙ split-again (split-tokens s)

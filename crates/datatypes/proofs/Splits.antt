@@ -52,7 +52,8 @@ split-more c s e f = rw (e, f)
 pub split-front : {t rest : List ℕ} → Token t → Delimits rest → split (t ++ rest) ≡ t ∷ split rest
 split-front (token-last e) by-end = simp e
 split-front (token-last e) (by-space f) = simp (e, f)
-split-front {rest = rest} (token-more {c} {t} e k) d = split-more c (t ++ rest) e (token-first k rest) ∙ ap (prefixed c) (split-front k d)
+split-front {rest = rest} (token-more {c} {t} e k) d =
+    split-more c (t ++ rest) e (token-first k rest) ∙ ap (prefixed c) (split-front k d)
 
 pub split-token : {t : List ℕ} → Token t → split t ≡ t ∷ []
 split-token {t} k = ap split (sym (append-nil t)) ∙ split-front k by-end
@@ -78,7 +79,8 @@ module _ (c : ℕ) (ts us vs : List (List ℕ)) (joined : ts ≡ us ++ vs) where
   prefixed-joined : First us → prefixed c ts ≡ prefixed c us ++ vs
   prefixed-joined r = rw (joined, r .apart)
 
-  begun-joined : (b : Bool) → (b ≡ false → First us) → cond b ((c ∷ []) ∷ ts) (prefixed c ts) ≡ cond b ((c ∷ []) ∷ us) (prefixed c us) ++ vs
+  begun-joined : (b : Bool) → (b ≡ false → First us)
+      → cond b ((c ∷ []) ∷ ts) (prefixed c ts) ≡ cond b ((c ∷ []) ∷ us) (prefixed c us) ++ vs
   begun-joined true r = rw joined
   begun-joined false r = prefixed-joined (r refl)
 
@@ -92,6 +94,8 @@ split-joined (d ∷ []) t c e = go (space d) refl
     go false f = simp (f, e)
 split-joined (d ∷ x ∷ s) t c e = go (split-joined (x ∷ s) t c e) (space d) refl
   where
-    go : split (x ∷ s ++ c ∷ t) ≡ split (x ∷ s) ++ split t → (b : Bool) → space d ≡ b → split (d ∷ x ∷ s ++ c ∷ t) ≡ split (d ∷ x ∷ s) ++ split t
+    go : split (x ∷ s ++ c ∷ t) ≡ split (x ∷ s) ++ split t → (b : Bool)
+        → space d ≡ b → split (d ∷ x ∷ s ++ c ∷ t) ≡ split (d ∷ x ∷ s) ++ split t
     go ih true f = rw f ih
-    go ih false f = rw f (begun-joined d (split (x ∷ s ++ c ∷ t)) (split (x ∷ s)) (split t) ih (space x) (split-first x s))
+    go ih false f =
+        rw f (begun-joined d (split (x ∷ s ++ c ∷ t)) (split (x ∷ s)) (split t) ih (space x) (split-first x s))

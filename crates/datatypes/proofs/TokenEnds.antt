@@ -17,7 +17,8 @@ use Rattle.datatypes.specs.Split.{Token, token-last, token-more, split, 
 use Rattle.datatypes.proofs.Splits.{split-trimmed, Delimits, by-end, by-space, split-front}
 
 -- the characters from the front on, up to the first whitespace
-taken-token : (n : ℕ) (s : List ℕ) → 0 < n → 0 < length s → ((i : ℕ) → i < n → i < length s → space (getD s i 0) ≡ false) → Token (take n s)
+taken-token : (n : ℕ) (s : List ℕ) → 0 < n → 0 < length s
+    → ((i : ℕ) → i < n → i < length s → space (getD s i 0) ≡ false) → Token (take n s)
 taken-token zero s h l all = absurd (omega arith)
 taken-token (suc n) [] h l all = absurd (omega arith)
 taken-token (suc zero) (c ∷ s) h l all = token-last (all 0 (omega arith) (omega arith))
@@ -33,7 +34,8 @@ delimits-at s to ended = go (ltb to (length s)) refl
     go true e = let h = ltb-true to (length s) e in rw (drop-one s to h) (by-space (ended h))
     go false e = rw (drop-of-length-le s (ltb-false to (length s) e)) by-end
 
-module _ {s : List ℕ} {from to : ℕ} (k : TokenTo s from to) (h : from < length s) (begins : space (getD s from 0) ≡ false) where
+module _ {s : List ℕ} {from to : ℕ} (k : TokenTo s from to)
+    (h : from < length s) (begins : space (getD s from 0) ≡ false) where
   pub token-onward : from < to
   token-onward = go (ltb from to) refl
     where
@@ -54,8 +56,10 @@ module _ {s : List ℕ} {from to : ℕ} (k : TokenTo s from to) (h : from < leng
   split-next =
       let o = token-onward in
       let back : from + (to - from) ≡ to = omega arith in
-      let behind : drop (to - from) (drop from s) ≡ drop to s = drop-drop (to - from) from s ∙ ap (λ (i : ℕ). drop i s) back in
-      let apart : between s from to ++ drop to s ≡ drop from s = ap (λ (l : List ℕ). between s from to ++ l) (sym behind) ∙ take-append-drop (to - from) (drop from s) in
+      let behind : drop (to - from) (drop from s)
+      ≡ drop to s = drop-drop (to - from) from s ∙ ap (λ (i : ℕ). drop i s) back in
+      let apart : between s from to ++ drop to s ≡ drop from s =
+      ap (λ (l : List ℕ). between s from to ++ l) (sym behind) ∙ take-append-drop (to - from) (drop from s) in
       ap split (sym apart) ∙ split-front token-between (delimits-at s to (k .ended))
 
 -- past whitespace stand the same tokens
@@ -72,4 +76,5 @@ trimmed-first (d ∷ s) c t e = go (trimmed-first s c t) (space d) refl
 
 -- and no whitespace character stands there
 pub skips-stopped : {s : List ℕ} {from to : ℕ} → Skips s from to → to < length s → space (getD s to 0) ≡ false
-skips-stopped {s} {from} {to} p h = trimmed-first (drop from s) (getD s to 0) (drop (to + 1) s) (sym (p .trimmed) ∙ drop-one s to h)
+skips-stopped {s} {from} {to} p h =
+    trimmed-first (drop from s) (getD s to 0) (drop (to + 1) s) (sym (p .trimmed) ∙ drop-one s to h)

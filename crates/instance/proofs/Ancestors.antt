@@ -43,15 +43,21 @@ pub root-told : (t : List ℕ) → ParentRight t 0 → (kindOf t 0 ≡ element) 
 unfolding ParentRight
 root-told t right = right
 
-later-right : {t : List ℕ} (r : ℕ) → 0 < r → parentOf t r ≢ noParent → SelfOrAncestor t (parentOf t r) (nearest t (r - 1)) → ParentRight t r
+later-right : {t : List ℕ} (r : ℕ) → 0 < r → parentOf t r ≢ noParent
+    → SelfOrAncestor t (parentOf t r) (nearest t (r - 1)) → ParentRight t r
 unfolding ParentRight
 later-right zero h f u = absurd (omega arith)
 later-right {t} (suc r) h f u = (f, (let e : suc r - 1 ≡ r = omega arith in rw e at u))
 
-later-told : {t : List ℕ} (r : ℕ) → 0 < r → ParentRight t r → (parentOf t r ≢ noParent) × SelfOrAncestor t (parentOf t r) (nearest t (r - 1))
+later-told : {t : List ℕ} (r : ℕ) → 0 < r → ParentRight t r
+    → (parentOf t r ≢ noParent) × SelfOrAncestor t (parentOf t r) (nearest t (r - 1))
 unfolding ParentRight
 later-told zero h right = absurd (omega arith)
-later-told {t} (suc r) h right = (right .0, (let e : r ≡ suc r - 1 = omega arith in subst (λ (x : ℕ). SelfOrAncestor t (parentOf t (suc r)) (nearest t x)) e (right .1)))
+later-told {t} (suc r) h right = (
+  right .0,
+  (let e : r ≡ suc r - 1 = omega arith in
+      subst (λ (x : ℕ). SelfOrAncestor t (parentOf t (suc r)) (nearest t x)) e (right .1)),
+)
 
 module _ {t : List ℕ} {r : ℕ} (rooted : Rooted t r) where
   pub up-before : {x e : ℕ} → x ≢ noParent → SelfOrAncestor t x e → e < r → x ≤ e
@@ -106,7 +112,8 @@ module _ {t : List ℕ} {r : ℕ} (rooted : Rooted t r) where
       root-parent (no h) = sure (ℕ-discrete (parentOf t 0) noParent) (λ f. right (λ p. f (at-root h p .1)))
 
   -- a step up from e, where the row looked for comes before e
-  pub up-step : {p e f : ℕ} → e < r → p < e → f ≡ parentOf t e → (f < e) × (SelfOrAncestor t p f → SelfOrAncestor t p e) × (SelfOrAncestor t p e → SelfOrAncestor t p f)
+  pub up-step : {p e f : ℕ} → e < r → p < e → f ≡ parentOf t e
+      → (f < e) × (SelfOrAncestor t p f → SelfOrAncestor t p e) × (SelfOrAncestor t p e → SelfOrAncestor t p f)
   up-step {p} {e} {f} h l z =
       let real : e ≢ noParent = omega (arith, rooted .few) in
       (rw z (rooted .before e (omega arith) h), (λ u. above real (rw z at u)), λ u. rw z (up-parent u l))

@@ -12,12 +12,16 @@ use lib.Dec.{eqb, ltb}
 use lib.ListN.{length, List·getD-eq-default}
 use borrow.Author.Tests.{eq-eqb, eqb-true, eqb-false, ltb-true}
 use Rattle.tables.proofs.Numbers.{not-less}
-use Rattle.instance.specs.Nodes.{element, attribute, text, noParent, nodesOf, kindOf, parentOf, aOf, bOf, cOf, isChild, isAttribute, SameName}
-use Rattle.instance.specs.NodeRule.{maxNodes, fieldsRight, nearest, SelfOrAncestor, itself, above, ParentRight, NodeSizeFault, broken-length, bad-size, bad-node, bad-fields, bad-parent, late-attribute, same-attribute, NodesRight}
+use Rattle.instance.specs.Nodes.{element, attribute, text, noParent, nodesOf, kindOf}
+use Rattle.instance.specs.Nodes.{parentOf, aOf, bOf, cOf, isChild, isAttribute, SameName}
+use Rattle.instance.specs.NodeRule.{maxNodes, fieldsRight, nearest, SelfOrAncestor, itself, above}
+use Rattle.instance.specs.NodeRule.{ParentRight, NodeSizeFault, broken-length, bad-size, bad-node}
+use Rattle.instance.specs.NodeRule.{bad-fields, bad-parent, late-attribute, same-attribute, NodesRight}
 use Rattle.instance.specs.Walk.{Rooted}
 use Rattle.instance.proofs.Size.{few-nodes}
 use Rattle.instance.proofs.Ancestors.{sure, up-none, rooted-none, rooted-more}
-use Rattle.instance.proofs.Order.{and-parts, child-parent, child-kind, text-child, attribute-parent, attribute-kind, attribute-told}
+use Rattle.instance.proofs.Order.{and-parts, child-parent, child-kind, text-child}
+use Rattle.instance.proofs.Order.{attribute-parent, attribute-kind, attribute-told}
 
 -- past a table of whole rows there is no row
 kind-past : (t : List ℕ) (r : ℕ) → length t % 5 ≡ 0 → nodesOf t ≤ r → kindOf t r ≡ 0
@@ -38,12 +42,15 @@ fields-told strings k a b c = go (eqb k element) refl (eqb k attribute) refl (eq
   where
     go :
         (x : Bool) → eqb k element ≡ x → (y : Bool) → eqb k attribute ≡ y → (z : Bool) → eqb k text ≡ z
-        → cond x (ltb a strings && (ltb 0 b && ltb b strings) && eqb c 0) (cond y (ltb a strings && (ltb 0 b && ltb b strings) && ltb c strings) (cond z ((ltb 0 a && ltb a strings) && eqb b 0 && eqb c 0) false)) ≡ true
+        → cond x (ltb a strings && (ltb 0 b && ltb b strings) && eqb c 0)
+        (cond y (ltb a strings && (ltb 0 b && ltb b strings) && ltb c strings)
+        (cond z ((ltb 0 a && ltb a strings) && eqb b 0 && eqb c 0) false)) ≡ true
         → Node strings k a
     go true e y f z g h = is-element (eqb-true _ _ e)
     go false e true f z g h = is-attribute (eqb-true _ _ f)
     go false e false f true g h =
-        let i = and-parts (ltb 0 a) (ltb a strings) (and-parts (ltb 0 a && ltb a strings) (eqb b 0) (and-parts (ltb 0 a && ltb a strings && eqb b 0) (eqb c 0) h .0) .0) in
+        let i = and-parts (ltb 0 a) (ltb a strings) (and-parts (ltb 0 a && ltb a strings)
+        (eqb b 0) (and-parts (ltb 0 a && ltb a strings && eqb b 0) (eqb c 0) h .0) .0) in
         is-text (eqb-true _ _ g) (ltb-true _ _ (i .0)) (ltb-true _ _ (i .1))
     go false e false f false g h = absurd (false≢true h)
 
@@ -69,7 +76,9 @@ module _ {strings : ℕ} {t : List ℕ} (right : NodesRight strings t) where
   has-kind e f = in-table (λ z. f (sym e ∙ z))
 
   pub node : (r : ℕ) → r < nodesOf t → Node strings (kindOf t r) (aOf t r)
-  node r h = fields-told strings (kindOf t r) (aOf t r) (bOf t r) (cOf t r) (go (fieldsRight strings (kindOf t r) (aOf t r) (bOf t r) (cOf t r)) refl)
+  node r h =
+      fields-told strings (kindOf t r) (aOf t r) (bOf t r) (cOf t r)
+      (go (fieldsRight strings (kindOf t r) (aOf t r) (bOf t r) (cOf t r)) refl)
     where
       go : (b : Bool) → fieldsRight strings (kindOf t r) (aOf t r) (bOf t r) (cOf t r) ≡ b → b ≡ true
       go true e = refl
@@ -88,7 +97,8 @@ module _ {strings : ℕ} {t : List ℕ} (right : NodesRight strings t) where
   rooted-to zero h = rooted-none t
   rooted-to (suc n) h =
       let few = few-nodes right-size in
-      rw (← add-one n) (rooted-more (rooted-to n (omega arith)) (omega arith) (λ f. right n (bad-node (omega arith) (bad-parent f))))
+      rw (← add-one n)
+      (rooted-more (rooted-to n (omega arith)) (omega arith) (λ f. right n (bad-node (omega arith) (bad-parent f))))
 
   pub rooted : Rooted t (nodesOf t)
   rooted = rooted-to (nodesOf t) (omega arith)
@@ -101,21 +111,25 @@ module _ {strings : ℕ} {t : List ℕ} (right : NodesRight strings t) where
   parent-less r h l = rooted .before r h l
 
   -- an ancestor of an element is one, where the parents of the rows before n are
-  up-elements : {n q e : ℕ} → n ≤ nodesOf t → ((x : ℕ) → 0 < x → x < n → kindOf t (parentOf t x) ≡ element) → q ≢ noParent → SelfOrAncestor t q e → e < n → kindOf t e ≡ element → kindOf t q ≡ element
+  up-elements : {n q e : ℕ} → n ≤ nodesOf t → ((x : ℕ) → 0 < x → x < n → kindOf t (parentOf t x) ≡ element)
+      → q ≢ noParent → SelfOrAncestor t q e → e < n → kindOf t e ≡ element → kindOf t q ≡ element
   up-elements m below f itself h k = k
   up-elements {n} {q} {e} m below f (above g u) h k = go (decLt 0 e) (λ l. up-elements m below f u l)
     where
-      go : Dec (0 < e) → (parentOf t e < n → kindOf t (parentOf t e) ≡ element → kindOf t q ≡ element) → kindOf t q ≡ element
+      go : Dec (0 < e) → (parentOf t e < n → kindOf t (parentOf t e) ≡ element → kindOf t q ≡ element)
+          → kindOf t q ≡ element
       go (yes z) ih = ih (let l = parent-less e z (omega arith) in omega arith) (below e z h)
       go (no z) ih =
           let e₀ : e ≡ 0 = omega arith in
           absurd (f (up-none u (ap (parentOf t) e₀ ∙ rooted .root-parent (omega arith))))
 
   -- the nearest element of a row is an element and not after it, where the row's parent is an element
-  nearest-row : (r : ℕ) → r < nodesOf t → (0 < r → kindOf t (parentOf t r) ≡ element) → (nearest t r ≤ r) × (kindOf t (nearest t r) ≡ element)
+  nearest-row : (r : ℕ) → r < nodesOf t → (0 < r → kindOf t (parentOf t r) ≡ element)
+      → (nearest t r ≤ r) × (kindOf t (nearest t r) ≡ element)
   nearest-row r h below = go (eqb (kindOf t r) element) refl (decLt 0 r)
     where
-      go : (b : Bool) → eqb (kindOf t r) element ≡ b → Dec (0 < r) → (nearest t r ≤ r) × (kindOf t (nearest t r) ≡ element)
+      go : (b : Bool) → eqb (kindOf t r) element ≡ b → Dec (0 < r)
+          → (nearest t r ≤ r) × (kindOf t (nearest t r) ≡ element)
       go true e d = rw e (omega arith, eqb-true _ _ e)
       go false e (yes z) = rw e (let l = parent-less r z h in omega arith, below z)
       go false e (no z) =
@@ -135,7 +149,8 @@ module _ {strings : ℕ} {t : List ℕ} (right : NodesRight strings t) where
       let near = nearest-row r (omega arith) (λ z. below r z (omega arith)) in
       let before = parent-less (suc r) (omega arith) (omega arith) in
       sure (ℕ-discrete (kindOf t (parentOf t (suc r))) element)
-      (λ f. parent-up r (omega arith) (λ u. f (up-elements (omega arith) below (λ z. omega (arith, few)) u (omega arith) (near .1))))
+      (λ f. parent-up r (omega arith)
+      (λ u. f (up-elements (omega arith) below (λ z. omega (arith, few)) u (omega arith) (near .1))))
 
   pub parent-element : (r : ℕ) → 0 < r → r < nodesOf t → kindOf t (parentOf t r) ≡ element
   parent-element = parents-to (nodesOf t) (omega arith)
@@ -163,11 +178,14 @@ module _ {strings : ℕ} {t : List ℕ} (right : NodesRight strings t) where
       (after-parent e r h l (attribute-parent t e r c), l)
 
   -- between an element and another that is above it stands a child of the one above
-  child-above : {e n : ℕ} → e < nodesOf t → SelfOrAncestor t e n → e ≢ n → n < nodesOf t → kindOf t n ≡ element → (c : ℕ) × (c ≤ n) × (isChild t e c ≡ true)
+  child-above : {e n : ℕ} → e < nodesOf t → SelfOrAncestor t e n → e ≢ n → n < nodesOf t
+      → kindOf t n ≡ element → (c : ℕ) × (c ≤ n) × (isChild t e c ≡ true)
   child-above h itself f l k = absurd (f refl)
   child-above {e} {n} h (above g u) f l k = go (decLt 0 n) (ℕ-discrete e (parentOf t n)) (λ d m. child-above h u d m)
     where
-      go : Dec (0 < n) → Dec (e ≡ parentOf t n) → (e ≢ parentOf t n → parentOf t n < nodesOf t → kindOf t (parentOf t n) ≡ element → (c : ℕ) × (c ≤ parentOf t n) × (isChild t e c ≡ true)) → (c : ℕ) × (c ≤ n) × (isChild t e c ≡ true)
+      go : Dec (0 < n) → Dec (e ≡ parentOf t n) → (e ≢ parentOf t n → parentOf t n < nodesOf t
+          → kindOf t (parentOf t n) ≡ element → (c : ℕ) × (c ≤ parentOf t n) × (isChild t e c ≡ true))
+          → (c : ℕ) × (c ≤ n) × (isChild t e c ≡ true)
       go z (yes p) ih = (n, omega arith, element-child t e n k (sym p))
       go (yes z) (no d) ih =
           let low = parent-less n z l in
@@ -179,7 +197,8 @@ module _ {strings : ℕ} {t : List ℕ} (right : NodesRight strings t) where
 
   -- no child of an element comes before one of its attributes
   no-child-before : (e r c : ℕ) → isAttribute t e r ≡ true → c < r → r < nodesOf t → isChild t e c ≡ true → ⊥
-  no-child-before e r c a h l i = right r (bad-node l (late-attribute c h (attribute-kind t e r a) (rw (attribute-parent t e r a) i)))
+  no-child-before e r c a h l i =
+      right r (bad-node l (late-attribute c h (attribute-kind t e r a) (rw (attribute-parent t e r a) i)))
 
   -- the row before an attribute is its element or an attribute of the same element
   attribute-step : (e m : ℕ) → e < m → isAttribute t e (suc m) ≡ true → ¬ (¬ (isAttribute t e m ≡ true))
@@ -217,14 +236,18 @@ module _ {strings : ℕ} {t : List ℕ} (right : NodesRight strings t) where
 
   -- the attributes of an element stand right after it
   pub attributes-first : (e x r : ℕ) → e < x → x ≤ r → isAttribute t e r ≡ true → isAttribute t e x ≡ true
-  attributes-first e x r h l a = let same : r ≡ x + (r - x) = omega arith in attributes-from (r - x) x e h (rw same at a)
+  attributes-first e x r h l a =
+      let same : r ≡ x + (r - x) = omega arith in
+      attributes-from (r - x) x e h (rw same at a)
 
   -- and have different names
   pub attributes-differ : (e q r : ℕ) → isAttribute t e q ≡ true → isAttribute t e r ≡ true → SameName t q r → q ≡ r
   attributes-differ e q r a b same = go (decLt q r) (decLt r q)
     where
       clash : (x y : ℕ) → isAttribute t e x ≡ true → isAttribute t e y ≡ true → SameName t x y → x < y → ⊥
-      clash x y i j n h = right y (bad-node (has-kind (attribute-kind t e y j) (λ z. omega arith)) (same-attribute x h (attribute-kind t e y j) (rw (attribute-parent t e y j) i) n))
+      clash x y i j n h =
+          right y (bad-node (has-kind (attribute-kind t e y j) (λ z. omega arith))
+          (same-attribute x h (attribute-kind t e y j) (rw (attribute-parent t e y j) i) n))
 
       go : Dec (q < r) → Dec (r < q) → q ≡ r
       go (yes h) d = absurd (clash q r a b same h)

@@ -14,8 +14,10 @@ use borrow.Author.Count.{below-none, below-more}
 use Rattle.tables.specs.Answers.{Decides}
 use Rattle.tables.specs.Outputs.{zeros}
 use Rattle.tables.proofs.Fill.{getD-zeros}
-use Rattle.instance.specs.Nodes.{element, attribute, text, noParent, kindOf, parentOf, aOf, bOf, cOf, isChild, isAttribute}
-use Rattle.instance.specs.NodeRule.{maxNodes, fieldsRight, WrongNode, bad-fields, bad-parent, late-attribute, same-attribute, text-after-text}
+use Rattle.instance.specs.Nodes.{element, attribute, text, noParent, kindOf}
+use Rattle.instance.specs.Nodes.{parentOf, aOf, bOf, cOf, isChild, isAttribute}
+use Rattle.instance.specs.NodeRule.{maxNodes, fieldsRight, WrongNode, bad-fields, bad-parent}
+use Rattle.instance.specs.NodeRule.{late-attribute, same-attribute, text-after-text}
 use Rattle.instance.specs.Walk.{LastChild, no-child, child-at, LastChildren, Twin, RepeatsName, repeats, Placed}
 use Rattle.instance.proofs.Ancestors.{root-told, parent-before}
 
@@ -29,7 +31,8 @@ module _ (t : List ℕ) (e q : ℕ) where
   child-parent h = eqb-true _ _ (and-parts _ _ h .0)
 
   pub child-kind : isChild t e q ≡ true → kindOf t q ≢ 0
-  child-kind h z = true≢false (sym (and-parts (eqb (parentOf t q) e) _ h .1) ∙ ap (λ (k : ℕ). eqb k element || eqb k text) z)
+  child-kind h z =
+      true≢false (sym (and-parts (eqb (parentOf t q) e) _ h .1) ∙ ap (λ (k : ℕ). eqb k element || eqb k text) z)
 
   pub text-child : kindOf t q ≡ text → parentOf t q ≡ e → isChild t e q ≡ true
   text-child k p = rw (k, eq-eqb _ _ p)
@@ -46,7 +49,9 @@ module _ (t : List ℕ) (e q : ℕ) where
 module _ {t : List ℕ} {e r k : ℕ} where
   last-kept : isChild t e r ≡ false → LastChild t e r k → LastChild t e (r + 1) k
   last-kept h (no-child z f) = no-child z (below-more _ r f h)
-  last-kept h (child-at q l c z b) = child-at q (omega arith) c z (λ x m n. below-more (λ (y : ℕ). q < y → isChild t e y ≡ false) r (λ y i j. b y j i) (λ i. h) x n m)
+  last-kept h (child-at q l c z b) =
+      child-at q (omega arith) c z
+      (λ x m n. below-more (λ (y : ℕ). q < y → isChild t e y ≡ false) r (λ y i j. b y j i) (λ i. h) x n m)
 
 last-new : {t : List ℕ} {e k : ℕ} (r : ℕ) → isChild t e r ≡ true → kindOf t r ≡ k → LastChild t e (r + 1) k
 last-new r c z = child-at r (omega arith) c z (λ x m n. absurd (omega arith))
@@ -71,7 +76,8 @@ module _ {t last : List ℕ} {r : ℕ} (c : LastChildren t last r) where
   pub noted-outside : {p : ℕ} → p ≡ parentOf t r → length last ≤ p → LastChildren t last (r + 1)
   noted-outside i h = noted-none (λ e l. rw (ne-eqb (parentOf t r) e (λ z. omega (arith, c .size))))
 
-  pub noted : {p k : ℕ} → p ≡ parentOf t r → k ≡ kindOf t r → (eqb k element || eqb k text) ≡ true → p < length last → LastChildren t (set last p k) (r + 1)
+  pub noted : {p k : ℕ} → p ≡ parentOf t r → k ≡ kindOf t r → (eqb k element || eqb k text) ≡ true
+      → p < length last → LastChildren t (set last p k) (r + 1)
   noted {p} {k} i j child h = record {
     size = length-set last p k ∙ c .size;
     kinds = λ e l. go e l (ℕ-discrete e p);
@@ -79,13 +85,17 @@ module _ {t last : List ℕ} {r : ℕ} (c : LastChildren t last r) where
     where
       go : (e : ℕ) → e < maxNodes → Dec (e ≡ p) → LastChild t e (r + 1) (getD (set last p k) e 0)
       go e l (yes z) = rw (z, getD-set-same last p k 0 h) (last-new r (rw (← i, ← j, eq-eqb p p refl) child) (sym j))
-      go e l (no f) = rw (getD-set-other last p e k 0 f) (last-kept (rw (ne-eqb (parentOf t r) e (λ z. f (sym z ∙ sym i)))) (c .kinds e l))
+      go e l (no f) =
+          rw (getD-set-other last p e k 0 f)
+          (last-kept (rw (ne-eqb (parentOf t r) e (λ z. f (sym z ∙ sym i)))) (c .kinds e l))
 
 pub no-repeats : {t : List ℕ} {p r q : ℕ} → r ≤ q → ((x : ℕ) → x < q → p < x → ¬ Twin t p x r) → ¬ RepeatsName t p r
 no-repeats h f (repeats x m l twin) = f x (omega arith) m twin
 
 -- the test of the fields that the code has read
-pub fields-tested : (strings : ℕ) (t : List ℕ) (r : ℕ) {k a b c : ℕ} {answer : Bool} → k ≡ kindOf t r → a ≡ aOf t r → b ≡ bOf t r → c ≡ cOf t r → answer ≡ fieldsRight strings k a b c → fieldsRight strings (kindOf t r) (aOf t r) (bOf t r) (cOf t r) ≡ answer
+pub fields-tested : (strings : ℕ) (t : List ℕ) (r : ℕ) {k a b c : ℕ} {answer : Bool}
+    → k ≡ kindOf t r → a ≡ aOf t r → b ≡ bOf t r → c ≡ cOf t r → answer ≡ fieldsRight strings k a b c
+    → fieldsRight strings (kindOf t r) (aOf t r) (bOf t r) (cOf t r) ≡ answer
 fields-tested strings t r e f g h i = rw (← e, ← f, ← g, ← h) (sym i)
 
 -- a row that is not the element at the root has a parent before it
@@ -96,7 +106,8 @@ parent-low {t} {last} {r} placed f = go (decLt 0 r)
     go (yes h) = parent-before (placed .rooted) h (placed .parent)
     go (no h) = let e : r ≡ 0 = omega arith in absurd (f (ap (kindOf t) e ∙ root-told t (rw e at (placed .parent)) .0))
 
-module _ {t last : List ℕ} {r k p before : ℕ} (placed : Placed t last r) (ke : k ≡ kindOf t r) (pe : p ≡ parentOf t r) (be : before ≡ getD last p 0) where
+module _ {t last : List ℕ} {r k p before : ℕ} (placed : Placed t last r)
+    (ke : k ≡ kindOf t r) (pe : p ≡ parentOf t r) (be : before ≡ getD last p 0) where
   last-child : p < r → LastChild t p r before
   last-child h = rw be (placed .last-children .kinds p (omega (arith, placed .few)))
 
@@ -155,7 +166,8 @@ module _ {t last : List ℕ} {r k p before : ℕ} (placed : Placed t last r) (ke
     attribute-right e f n (text-after-text q l y z s b) = omega arith
 
     -- an attribute of an element that has no child yet is wrong exactly if it repeats a name
-    pub attribute-told-wrong : k ≡ attribute → before ≡ 0 → (answer : Bool) → Decides (RepeatsName t p r) answer → Decides (WrongNode strings t r) answer
+    pub attribute-told-wrong : k ≡ attribute → before ≡ 0 → (answer : Bool)
+        → Decides (RepeatsName t p r) answer → Decides (WrongNode strings t r) answer
     attribute-told-wrong e f true a = repeated e a
     attribute-told-wrong e f false a = attribute-right e f a
 
@@ -169,7 +181,8 @@ module _ {t last : List ℕ} {r k p before : ℕ} (placed : Placed t last r) (ke
         own : isChild t p q ≡ true
         own = text-child t p q z (s ∙ sym pe)
 
-        meet : (x : ℕ) → x < r → isChild t p x ≡ true → kindOf t x ≡ before → ((v : ℕ) → x < v → v < r → isChild t p v ≡ false) → Dec (x < q) → Dec (q < x) → ⊥
+        meet : (x : ℕ) → x < r → isChild t p x ≡ true → kindOf t x ≡ before
+            → ((v : ℕ) → x < v → v < r → isChild t p v ≡ false) → Dec (x < q) → Dec (q < x) → ⊥
         meet x m d i g (yes h) j = true≢false (sym own ∙ g q h l)
         meet x m d i g (no h) (yes j) = true≢false (sym d ∙ rw pe (b x j m))
         meet x m d i g (no h) (no j) = let same : x ≡ q = omega arith in f (sym i ∙ ap (kindOf t) same ∙ z)

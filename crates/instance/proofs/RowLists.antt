@@ -25,7 +25,8 @@ Without test a b = (x : ℕ) → a ≤ x → x < b → test x ≡ false
 -- a list of the rows from a up to b that pass a test, in order
 pub data Selects (test : ℕ → Bool) (b : ℕ) : ℕ → List ℕ → Type 0 where
   no-more : {a : ℕ} → Without test a b → Selects test b a []
-  next : {a x : ℕ} {l : List ℕ} → a ≤ x → x < b → Without test a x → test x ≡ true → Selects test b (suc x) l → Selects test b a (x ∷ l)
+  next : {a x : ℕ} {l : List ℕ} → a ≤ x → x < b → Without test a x
+      → test x ≡ true → Selects test b (suc x) l → Selects test b a (x ∷ l)
 
 module _ (test : ℕ → Bool) where
   selects-none : (a b : ℕ) → b ≤ a → Selects test b a []
@@ -45,7 +46,8 @@ module _ (test : ℕ → Bool) where
   selects-past e (no-more f) = no-more (without-more f e)
   selects-past e (next h l f p s) = next h (omega arith) f p (selects-past e s)
 
-  selects-one : {a b : ℕ} {l : List ℕ} → a ≤ b → test b ≡ true → Selects test b a l → Selects test (suc b) a (l ++ (b ∷ []))
+  selects-one : {a b : ℕ} {l : List ℕ} → a ≤ b → test b ≡ true
+      → Selects test b a l → Selects test (suc b) a (l ++ (b ∷ []))
   selects-one {b = b} m e (no-more f) = next m (omega arith) f e (selects-none (suc b) (suc b) (omega arith))
   selects-one m e (next h l f p s) = next h (omega arith) f p (selects-one l e s)
 
@@ -55,7 +57,8 @@ module _ (test : ℕ → Bool) where
   selects-rows zero = selects-none 0 0 (omega arith)
   selects-rows (suc n) = go (test n) refl (selects-rows n)
     where
-      go : (b : Bool) → test n ≡ b → Selects test n 0 (rowsWhere test n) → Selects test (suc n) 0 (rowsWhere test n ++ cond b (n ∷ []) [])
+      go : (b : Bool) → test n ≡ b → Selects test n 0 (rowsWhere test n)
+          → Selects test (suc n) 0 (rowsWhere test n ++ cond b (n ∷ []) [])
       go true e before = selects-one (omega arith) e before
       go false e before = rw append-nil (selects-past e before)
 
@@ -84,7 +87,8 @@ module _ (test : ℕ → Bool) where
   length-rows zero = refl
   length-rows (suc n) = length-append (rowsWhere test n) (cond (test n) (n ∷ []) []) ∙ go (test n) (length-rows n)
     where
-      go : (b : Bool) → length (rowsWhere test n) ≡ howMany test n → length (rowsWhere test n) + length (cond b (n ∷ []) []) ≡ howMany test n + cond b 1 0
+      go : (b : Bool) → length (rowsWhere test n) ≡ howMany test n
+          → length (rowsWhere test n) + length (cond b (n ∷ []) []) ≡ howMany test n + cond b 1 0
       go true e = ap (λ (k : ℕ). k + 1) e
       go false e = ap (λ (k : ℕ). k + 0) e
 
@@ -104,7 +108,9 @@ pub data Alternate (t : List ℕ) : List ℕ → Type 0 where
   text-row : {r q : ℕ} {l : List ℕ} → kindOf t r ≡ text → isElement t q ≡ true → Alternate t l → Alternate t (r ∷ q ∷ l)
 
 pub child-kinds : (t : List ℕ) (e r : ℕ) → isChild t e r ≡ true → (isElement t r ≡ true) ⊎ (kindOf t r ≡ text)
-child-kinds t e r c = go (eqb (kindOf t r) element) (and-parts (eqb (parentOf t r) e) (eqb (kindOf t r) element || eqb (kindOf t r) text) c .1)
+child-kinds t e r c =
+    go (eqb (kindOf t r) element)
+    (and-parts (eqb (parentOf t r) e) (eqb (kindOf t r) element || eqb (kindOf t r) text) c .1)
   where
     go : (b : Bool) → (b || eqb (kindOf t r) text) ≡ true → (b ≡ true) ⊎ (kindOf t r ≡ text)
     go true f = inl refl
@@ -112,7 +118,8 @@ child-kinds t e r c = go (eqb (kindOf t r) element) (and-parts (eqb (parentOf t 
 
 module _ {strings : ℕ} {t : List ℕ} (right : NodesRight strings t) (e : ℕ) where
   -- after a text comes no text
-  after-text : (q r : ℕ) → q < r → kindOf t q ≡ text → parentOf t q ≡ e → Without (isChild t e) (suc q) r → isChild t e r ≡ true → isElement t r ≡ true
+  after-text : (q r : ℕ) → q < r → kindOf t q ≡ text → parentOf t q ≡ e
+      → Without (isChild t e) (suc q) r → isChild t e r ≡ true → isElement t r ≡ true
   after-text q r h k p f c = go (child-kinds t e r c)
     where
       own : parentOf t r ≡ e
@@ -120,7 +127,9 @@ module _ {strings : ℕ} {t : List ℕ} (right : NodesRight strings t) (e : ℕ)
 
       go : (isElement t r ≡ true) ⊎ (kindOf t r ≡ text) → isElement t r ≡ true
       go (inl i) = i
-      go (inr j) = absurd (right r (bad-node (has-kind right j (λ z. omega arith)) (text-after-text q h j k (p ∙ sym own) (λ x m n. rw own (f x m n)))))
+      go (inr j) =
+          absurd (right r (bad-node (has-kind right j (λ z. omega arith))
+          (text-after-text q h j k (p ∙ sym own) (λ x m n. rw own (f x m n)))))
 
   after-element : {r : ℕ} {l : List ℕ} → isElement t r ≡ true → Alternate t (r ∷ l) → Alternate t l
   after-element i (element-row j a) = a
@@ -131,7 +140,8 @@ module _ {strings : ℕ} {t : List ℕ} (right : NodesRight strings t) (e : ℕ)
   alternates (no-more f) = no-row
   alternates {b = b} (next {x = x} {l = l} h k f c s) = go (child-kinds t e x c) s (alternates s)
     where
-      go : {l : List ℕ} → (isElement t x ≡ true) ⊎ (kindOf t x ≡ text) → Selects (isChild t e) b (suc x) l → Alternate t l → Alternate t (x ∷ l)
+      go : {l : List ℕ} → (isElement t x ≡ true) ⊎ (kindOf t x ≡ text)
+          → Selects (isChild t e) b (suc x) l → Alternate t l → Alternate t (x ∷ l)
       go (inl i) s a = element-row i a
       go (inr j) (no-more g) a = last-text j
       go (inr j) (next {x = y} m n g d s) a =

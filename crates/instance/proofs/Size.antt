@@ -8,7 +8,8 @@ use lib.ListN.{length}
 use Rattle.tables.specs.Answers.{Clear}
 use Rattle.tables.proofs.Numbers.{not-less}
 use Rattle.instance.specs.Nodes.{nodesOf}
-use Rattle.instance.specs.NodeRule.{maxNodes, NodeSizeFault, no-node, too-many-nodes, broken-length, NodeFault, NodesRight, bad-size, bad-node}
+use Rattle.instance.specs.NodeRule.{maxNodes, NodeSizeFault, no-node, too-many-nodes}
+use Rattle.instance.specs.NodeRule.{broken-length, NodeFault, NodesRight, bad-size, bad-node}
 use Rattle.instance.specs.Walk.{BadNode}
 
 pub size-right : {t : List ℕ} → nodesOf t ≢ 0 → nodesOf t ≤ maxNodes → length t % 5 ≡ 0 → (r : ℕ) → ¬ NodeSizeFault t r
@@ -17,7 +18,8 @@ size-right some few whole r (too-many-nodes h z) = omega arith
 size-right some few whole r (broken-length w z) = w whole
 
 -- a wrong size is placed at row 0 and comes first
-pub first-bad-size : {strings : ℕ} {t : List ℕ} {place : ℕ} → NodeSizeFault t place → Clear (NodeSizeFault t) place → NodeFault strings t place × Clear (NodeFault strings t) place
+pub first-bad-size : {strings : ℕ} {t : List ℕ} {place : ℕ} → NodeSizeFault t place
+    → Clear (NodeSizeFault t) place → NodeFault strings t place × Clear (NodeFault strings t) place
 first-bad-size {strings} {t} {place} f clear = (bad-size f, λ k h. absurd (before k h))
   where
     zero-place : {k : ℕ} → NodeSizeFault t k → k ≡ 0

@@ -10,7 +10,8 @@ use native.Mathlib.Omega.{arith}
 use lib.ListN.{length, length-append}
 use lib.Dec.{ltb, leb, eqb}
 use borrow.Author.Tests.{lt-ltb, le-ltb, le-leb, eq-eqb, ne-eqb, ltb-true, ltb-false, eqb-true, eqb-false}
-use Rattle.job.specs.Numbers.{largestWord, largestNumber, decimalBy, decimal, wordText, isDigit, allDigits, noLeadingZero, valueFrom, isNumber, numberOf, wordOf}
+use Rattle.job.specs.Numbers.{largestWord, largestNumber, decimalBy, decimal, wordText, isDigit}
+use Rattle.job.specs.Numbers.{allDigits, noLeadingZero, valueFrom, isNumber, numberOf, wordOf}
 
 pub lt-or-ge : (a b : ℕ) → (a < b) ⊎ (b ≤ a)
 lt-or-ge a b = go (ltb a b) refl
@@ -46,7 +47,8 @@ unfolding decimalBy
 by-length zero n = omega arith
 by-length (suc k) n =
     ⊎-elim (λ l. rw (ap length (by-short k n l)) (omega arith))
-    (λ l. let h = by-length k (n / 10) in rw (ap length (by-more k n l) ∙ length-append (decimalBy k (n / 10)) ((48 + n % 10) ∷ [])) (omega arith))
+    (λ l. let h = by-length k (n / 10) in
+    rw (ap length (by-more k n l) ∙ length-append (decimalBy k (n / 10)) ((48 + n % 10) ∷ [])) (omega arith))
     (lt-or-ge n 10)
 
 pub decimal-length : (n : ℕ) → length (decimal n) ≤ 10
@@ -67,7 +69,8 @@ digits-append : (l r : List ℕ) → allDigits l ≡ true → allDigits r ≡ tr
 digits-append [] r e f = f
 digits-append (c ∷ l) r e f = go (isDigit c) e (λ h. digits-append l r h f)
   where
-    go : (b : Bool) → (b && allDigits l) ≡ true → (allDigits l ≡ true → allDigits (l ++ r) ≡ true) → (b && allDigits (l ++ r)) ≡ true
+    go : (b : Bool) → (b && allDigits l) ≡ true
+        → (allDigits l ≡ true → allDigits (l ++ r) ≡ true) → (b && allDigits (l ++ r)) ≡ true
     go true h k = k h
     go false h k = h
 
@@ -85,7 +88,8 @@ record WrittenDecimal (n : ℕ) (l : List ℕ) : Type 0 where
   value : valueFrom 0 l ≡ n
 
 written-short : (n : ℕ) → 0 < n → n < 10 → WrittenDecimal n ((48 + n) ∷ [])
-written-short n h k = record { first = n; rest = []; is = refl; above = h; below = k; digits = rw (digit-is n k); value = omega arith }
+written-short n h k =
+    record { first = n; rest = []; is = refl; above = h; below = k; digits = rw (digit-is n k); value = omega arith }
 
 written-more : (n d : ℕ) {l : List ℕ} → d < 10 → WrittenDecimal n l → WrittenDecimal (n * 10 + d) (l ++ (48 + d) ∷ [])
 written-more n d {l} h w = record {
@@ -103,7 +107,8 @@ written zero n p h = let h′ : n < 10 = h in rw (by-short zero n h′) (written
 written (suc k) n p h =
     let h′ : n < 10 ^ suc k * 10 = rw pow-suc at h in
     ⊎-elim (λ l. rw (by-short (suc k) n l) (written-short n p l))
-    (λ l. rw (by-more (suc k) n l) (subst (λ m. WrittenDecimal m (decimalBy (suc k) (n / 10) ++ (48 + n % 10) ∷ [])) (div-add-mod' n 10)
+    (λ l. rw (by-more (suc k) n l)
+    (subst (λ m. WrittenDecimal m (decimalBy (suc k) (n / 10) ++ (48 + n % 10) ∷ [])) (div-add-mod' n 10)
     (written-more (n / 10) (n % 10) (omega arith) (written k (n / 10) (omega arith) (omega arith)))))
     (lt-or-ge n 10)
 
@@ -113,7 +118,12 @@ no-zero d (c ∷ r) h = rw (ne-eqb (48 + d) 48 (λ e. omega arith))
 
 number-written : {n : ℕ} {l : List ℕ} → WrittenDecimal n l → n ≤ largestNumber → numberOf l ≡ some n
 number-written {n} {l} w h =
-    rw (ap noLeadingZero (w .is) ∙ no-zero (w .first) (w .rest) (w .above), w .digits, w .value, le-leb n largestNumber h)
+    rw (
+      ap noLeadingZero (w .is) ∙ no-zero (w .first) (w .rest) (w .above),
+      w .digits,
+      w .value,
+      le-leb n largestNumber h,
+    )
 
 -- `-` is no digit
 word-digit : (d : ℕ) (r : List ℕ) → wordOf ((48 + d) ∷ r) ≡ numberOf ((48 + d) ∷ r)
@@ -130,7 +140,9 @@ number-back n h = ⊎-elim (λ e. rw e refl) (λ p. number-written (written 9 n 
 
 word-decimal : (n : ℕ) → n ≤ largestNumber → wordOf (decimal n) ≡ some n
 unfolding decimalBy
-word-decimal n h = ⊎-elim (λ e. rw e refl) (λ p. let w = written 9 n p (omega arith) in word-written w ∙ number-written w h) (eq-zero-or-pos n)
+word-decimal n h =
+    ⊎-elim (λ e. rw e refl)
+    (λ p. let w = written 9 n p (omega arith) in word-written w ∙ number-written w h) (eq-zero-or-pos n)
 
 -- and so does a word
 pub word-back : (w : ℕ) → w ≤ largestWord → wordOf (wordText w) ≡ some w
@@ -146,5 +158,6 @@ unfolding decimalBy
 all-digits zero n = refl
 all-digits (suc k) n =
     ⊎-elim (λ l. rw (by-short k n l, digit-is n l))
-    (λ l. rw (by-more k n l) (digits-append (decimalBy k (n / 10)) ((48 + n % 10) ∷ []) (all-digits k (n / 10)) (rw (digit-is (n % 10) (omega arith)))))
+    (λ l. rw (by-more k n l) (digits-append (decimalBy k (n / 10)) ((48 + n % 10) ∷ [])
+    (all-digits k (n / 10)) (rw (digit-is (n % 10) (omega arith)))))
     (lt-or-ge n 10)

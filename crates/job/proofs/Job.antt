@@ -12,7 +12,8 @@ use lib.Dec.{eqb}
 use borrow.Author.Tests.{le-leb, le-ltb, eq-eqb}
 use Rattle.tables.proofs.Numbers.{not-less, is-same}
 use Rattle.tables.specs.Tables.{StringTable, Tables, tablesOf, stringTable}
-use Rattle.strings.specs.Strings.{maxStrings, maxBytes, startOf, endOf, textOf, StringsRight, no-string, too-many-strings, too-many-bytes, at-front, last-end-wrong, bad-end}
+use Rattle.strings.specs.Strings.{maxStrings, maxBytes, startOf, endOf, textOf, StringsRight, no-string}
+use Rattle.strings.specs.Strings.{too-many-strings, too-many-bytes, at-front, last-end-wrong, bad-end}
 use Rattle.strings.proofs.Table.{ends-of, start-before-end, end-within}
 use Rattle.schema.specs.RowRule.{maxRows}
 use Rattle.schema.specs.Rows.{rowsOf}
@@ -24,8 +25,10 @@ use Rattle.job.specs.Numbers.{decimal, wordsText, hexText, Words, Bytes}
 use Rattle.job.specs.Lines.{lineFeed, linesOf, isEnded}
 use Rattle.job.specs.Written.{stringLines, rowLines, jobLines, jobText}
 use Rattle.job.specs.Reading.{Reading, read, lines, addString, addRow, addNode, readLines, readJob, maxFile}
-use Rattle.job.proofs.Texts.{Lacks, lacks-append, lacks-decimal, lacks-words, lacks-hex, Lined, lines-back, lined-append, lines-ended, bytes-back}
-use Rattle.job.proofs.RoundTrip.{count-back, bytes-take, bytes-drop, withRow, withNode, rows-back, schema-back, instance-back}
+use Rattle.job.proofs.Texts.{Lacks, lacks-append, lacks-decimal, lacks-words, lacks-hex}
+use Rattle.job.proofs.Texts.{Lined, lines-back, lined-append, lines-ended, bytes-back}
+use Rattle.job.proofs.RoundTrip.{count-back, bytes-take, bytes-drop, withRow}
+use Rattle.job.proofs.RoundTrip.{withNode, rows-back, schema-back, instance-back}
 
 module _ (T : StringTable) (right : StringsRight T) where
   pub few-bytes : length (T .bytes) ≤ maxBytes
@@ -41,26 +44,42 @@ module _ (T : StringTable) (right : StringsRight T) where
   abbrev before : ℕ → Tables
   before j = tablesOf (stringTable (take (startOf (T .ends) j) (T .bytes)) (take j (T .ends))) [] []
 
-  add-back : (j : ℕ) → Bytes (T .bytes) → j < length (T .ends) → addString (before j) (ascii "s=" ++ hexText (textOf T j)) ≡ some (before (suc j))
+  add-back : (j : ℕ) → Bytes (T .bytes) → j < length (T .ends)
+      → addString (before j) (ascii "s=" ++ hexText (textOf T j)) ≡ some (before (suc j))
   add-back j b h =
       let r = start-before-end (ends-of right) j h in
       let w = end-within (ends-of right) (length (T .ends) - suc j) j (omega arith) in
-      let s : length (take (startOf (T .ends) j) (T .bytes)) ≡ startOf (T .ends) j = length-take-le (startOf (T .ends) j) (T .bytes) (omega arith) in
+      let s : length (take (startOf (T .ends) j) (T .bytes))
+      ≡ startOf (T .ends) j = length-take-le (startOf (T .ends) j) (T .bytes) (omega arith) in
       let d = length-drop (startOf (T .ends) j) (T .bytes) in
-      let l : length (textOf T j) ≡ endOf (T .ends) j - startOf (T .ends) j = length-take-le (endOf (T .ends) j - startOf (T .ends) j) (drop (startOf (T .ends) j) (T .bytes)) (omega arith) in
+      let l : length (textOf T j) ≡ endOf (T .ends) j - startOf (T .ends) j = length-take-le (endOf (T .ends) j
+      - startOf (T .ends) j) (drop (startOf (T .ends) j) (T .bytes)) (omega arith) in
       let e : startOf (T .ends) j + (endOf (T .ends) j - startOf (T .ends) j) ≡ endOf (T .ends) j = omega arith in
-      let t : take (startOf (T .ends) j) (T .bytes) ++ textOf T j ≡ take (endOf (T .ends) j) (T .bytes) = sym (take-add (startOf (T .ends) j) (endOf (T .ends) j - startOf (T .ends) j) (T .bytes)) ∙ ap (λ k. take k (T .bytes)) e in
+      let t : take (startOf (T .ends) j) (T .bytes) ++ textOf T j ≡ take (endOf (T .ends) j) (T .bytes) =
+      sym (take-add (startOf (T .ends) j) (endOf (T .ends) j - startOf (T .ends) j) (T .bytes))
+      ∙ ap (λ k. take k (T .bytes)) e in
       let f : take j (T .ends) ++ endOf (T .ends) j ∷ [] ≡ take (suc j) (T .ends) = sym (take-suc (T .ends) j 0 h) in
-      rw (bytes-back (textOf T j) (bytes-take (endOf (T .ends) j - startOf (T .ends) j) (drop (startOf (T .ends) j) (T .bytes)) (bytes-drop (startOf (T .ends) j) (T .bytes) b)), s, l, e, le-leb (endOf (T .ends) j) maxBytes (let m = few-bytes in omega arith), t, f)
+      rw (
+        bytes-back (textOf T j) (bytes-take (endOf (T .ends) j - startOf (T .ends) j)
+            (drop (startOf (T .ends) j) (T .bytes)) (bytes-drop (startOf (T .ends) j) (T .bytes) b)),
+        s,
+        l,
+        e,
+        le-leb (endOf (T .ends) j) maxBytes (let m = few-bytes in omega arith),
+        t,
+        f,
+      )
 
-  strings-back : Bytes (T .bytes) → (n j k : ℕ) (rest : List (List ℕ)) (next : Tables → ℕ → List (List ℕ) → Reading) → j + n ≡ length (T .ends)
+  strings-back : Bytes (T .bytes)
+      → (n j k : ℕ) (rest : List (List ℕ)) (next : Tables → ℕ → List (List ℕ) → Reading) → j + n ≡ length (T .ends)
       → lines addString n (before j) k (stringLines T j n ++ rest) next ≡ next (before (j + n)) (n + k) rest
   unfolding lines stringLines
   strings-back b zero j k rest next e = ap₂ (λ j k. next (before j) k rest) (sym (add-zero j)) (sym (zero-add k))
   strings-back b (suc n) j k rest next e =
       let u : suc j + n ≡ j + suc n = omega arith in
       let v : n + suc k ≡ suc n + k = omega arith in
-      rw (add-back j b (omega arith)) (strings-back b n (suc j) (suc k) rest next (omega arith) ∙ ap₂ (λ j k. next (before j) k rest) u v)
+      rw (add-back j b (omega arith))
+      (strings-back b n (suc j) (suc k) rest next (omega arith) ∙ ap₂ (λ j k. next (before j) k rest) u v)
 
   -- all strings
   whole : before (length (T .ends)) ≡ tablesOf T [] []
@@ -70,7 +89,8 @@ module _ (T : StringTable) (right : StringsRight T) where
       go zero e = absurd (right 0 (bad-end (at-front (no-string e refl))))
       go (suc n) e =
           let l = last n (sym e) in
-          ap₂ (λ b e. tablesOf (stringTable b e) [] []) (take-all (endOf (T .ends) n) (T .bytes) (omega arith)) (take-all (suc n) (T .ends) (omega arith))
+          ap₂ (λ b e. tablesOf (stringTable b e) [] []) (take-all (endOf (T .ends) n) (T .bytes) (omega arith))
+          (take-all (suc n) (T .ends) (omega arith))
 
 abbrev lacksFeed : List ℕ → Bool
 lacksFeed [] = true
@@ -86,7 +106,10 @@ lined-strings T k (suc n) =
 lined-rows : (key : List ℕ) → Lacks lineFeed key → (width n : ℕ) (table : List ℕ) → Lined (rowLines key width n table)
 unfolding rowLines Lined
 lined-rows key h width zero table = tt
-lined-rows key h width (suc n) table = (lacks-append lineFeed key (wordsText (take width table)) h (lacks-words lineFeed (take width table) (omega arith)), lined-rows key h width n (drop width table))
+lined-rows key h width (suc n) table = (
+  lacks-append lineFeed key (wordsText (take width table)) h (lacks-words lineFeed (take width table) (omega arith)),
+  lined-rows key h width n (drop width table),
+)
 
 clear : (key : List ℕ) → lacksFeed key ≡ true → Lacks lineFeed key
 clear [] e = tt
@@ -97,13 +120,17 @@ clear (c ∷ key) e =
 -- the parts of a job's lines
 module _ (J : Tables) where
   abbrev strings : List (List ℕ)
-  strings = ascii "rng=1" ∷ (ascii "strings=" ++ decimal (length (J .strings .ends))) ∷ stringLines (J .strings) 0 (length (J .strings .ends))
+  strings =
+      ascii "rng=1" ∷ (ascii "strings=" ++ decimal (length (J .strings .ends)))
+      ∷ stringLines (J .strings) 0 (length (J .strings .ends))
 
   abbrev rows : List (List ℕ)
   rows = (ascii "schema=" ++ decimal (rowsOf (J .schema))) ∷ rowLines (ascii "row=") 3 (rowsOf (J .schema)) (J .schema)
 
   abbrev nodes : List (List ℕ)
-  nodes = (ascii "instance=" ++ decimal (nodesOf (J .instance))) ∷ rowLines (ascii "node=") 5 (nodesOf (J .instance)) (J .instance)
+  nodes =
+      (ascii "instance=" ++ decimal (nodesOf (J .instance)))
+      ∷ rowLines (ascii "node=") 5 (nodesOf (J .instance)) (J .instance)
 
   lacks-count : (key : List ℕ) → lacksFeed key ≡ true → (n : ℕ) → Lacks lineFeed (key ++ decimal n)
   lacks-count key e n = lacks-append lineFeed key (decimal n) (clear key e) (lacks-decimal lineFeed n (omega arith))
@@ -113,10 +140,19 @@ module _ (J : Tables) where
   lined-job =
       lined-append (strings ++ rows ++ nodes) (ascii "end=1" ∷ [])
       (lined-append (strings ++ rows) nodes
-      (lined-append strings rows
-      (clear (ascii "rng=1") refl, (lacks-count (ascii "strings=") refl (length (J .strings .ends)), lined-strings (J .strings) 0 (length (J .strings .ends))))
-      (lacks-count (ascii "schema=") refl (rowsOf (J .schema)), lined-rows (ascii "row=") (clear (ascii "row=") refl) 3 (rowsOf (J .schema)) (J .schema)))
-      (lacks-count (ascii "instance=") refl (nodesOf (J .instance)), lined-rows (ascii "node=") (clear (ascii "node=") refl) 5 (nodesOf (J .instance)) (J .instance)))
+      (lined-append strings rows (
+        clear (ascii "rng=1") refl,
+        (
+          lacks-count (ascii "strings=") refl (length (J .strings .ends)),
+          lined-strings (J .strings) 0 (length (J .strings .ends)),
+        ),
+      ) (
+        lacks-count (ascii "schema=") refl (rowsOf (J .schema)),
+        lined-rows (ascii "row=") (clear (ascii "row=") refl) 3 (rowsOf (J .schema)) (J .schema),
+      )) (
+        lacks-count (ascii "instance=") refl (nodesOf (J .instance)),
+        lined-rows (ascii "node=") (clear (ascii "node=") refl) 5 (nodesOf (J .instance)) (J .instance),
+      ))
       (clear (ascii "end=1") refl, tt)
 
   abbrev inTurn : List (List ℕ)
@@ -134,10 +170,13 @@ module _ (J : Tables) where
   lines-in-turn : linesOf (jobText J) ≡ inTurn
   lines-in-turn =
       lines-back (jobLines J) lined-job
-      ∙ append-assoc (strings ++ rows) nodes (ascii "end=1" ∷ []) ∙ append-assoc strings rows (nodes ++ ascii "end=1" ∷ [])
+      ∙ append-assoc (strings ++ rows) nodes (ascii "end=1" ∷ [])
+      ∙ append-assoc strings rows (nodes ++ ascii "end=1" ∷ [])
 
   ended : isEnded (jobText J) ≡ true
-  ended = lines-ended (ascii "rng=1") ((ascii "strings=" ++ decimal (length (J .strings .ends))) ∷ stringLines (J .strings) 0 (length (J .strings .ends)) ++ rows ++ nodes ++ ascii "end=1" ∷ [])
+  ended =
+      lines-ended (ascii "rng=1") ((ascii "strings=" ++ decimal (length (J .strings .ends)))
+      ∷ stringLines (J .strings) 0 (length (J .strings .ends)) ++ rows ++ nodes ++ ascii "end=1" ∷ [])
 
 -- what the writer takes, as words and bytes of the machine
 pub record Writable (J : Tables) : Type 0 where
@@ -159,14 +198,22 @@ module _ (J : Tables) (w : Writable J) where
       let b : length (J .instance) ≡ nodesOf (J .instance) * 5 = (let z = w .whole-nodes in omega arith) in
       rw (
         e,
-        count-back (ascii "strings=") maxStrings (length (J .strings .ends)) (few-strings (J .strings) right) (omega arith),
-        strings-back (J .strings) right (w .are-bytes) (length (J .strings .ends)) 0 3 _ _ (zero-add (length (J .strings .ends))),
+        count-back (ascii "strings=") maxStrings (length (J .strings .ends))
+            (few-strings (J .strings) right) (omega arith),
+        strings-back (J .strings) right (w .are-bytes) (length (J .strings .ends))
+            0 3 _ _ (zero-add (length (J .strings .ends))),
         zero-add (length (J .strings .ends)),
         whole (J .strings) right,
         count-back (ascii "schema=") maxRows (rowsOf (J .schema)) (w .few-rows) (omega arith),
-        rows-back addRow (ascii "row=") 2 withRow schema-back (λ t a b. ap (λ (r : List ℕ). tablesOf (t .strings) r (t .instance)) (append-assoc (t .schema) a b)) (λ t. ap (λ (r : List ℕ). tablesOf (t .strings) r (t .instance)) (append-nil (t .schema))) (rowsOf (J .schema)) _ _ (J .schema) _ _ a (w .schema-words),
+        rows-back addRow (ascii "row=") 2 withRow schema-back
+            (λ t a b. ap (λ (r : List ℕ). tablesOf (t .strings) r (t .instance)) (append-assoc (t .schema) a b))
+            (λ t. ap (λ (r : List ℕ). tablesOf (t .strings) r (t .instance)) (append-nil (t .schema)))
+            (rowsOf (J .schema)) _ _ (J .schema) _ _ a (w .schema-words),
         count-back (ascii "instance=") maxNodes (nodesOf (J .instance)) (w .few-nodes) (omega arith),
-        rows-back addNode (ascii "node=") 4 withNode instance-back (λ t a b. ap (λ (r : List ℕ). tablesOf (t .strings) (t .schema) r) (append-assoc (t .instance) a b)) (λ t. ap (λ (r : List ℕ). tablesOf (t .strings) (t .schema) r) (append-nil (t .instance))) (nodesOf (J .instance)) _ _ (J .instance) _ _ b (w .instance-words),
+        rows-back addNode (ascii "node=") 4 withNode instance-back
+            (λ t a b. ap (λ (r : List ℕ). tablesOf (t .strings) (t .schema) r) (append-assoc (t .instance) a b))
+            (λ t. ap (λ (r : List ℕ). tablesOf (t .strings) (t .schema) r) (append-nil (t .instance)))
+            (nodesOf (J .instance)) _ _ (J .instance) _ _ b (w .instance-words),
         f,
       )
 

@@ -11,7 +11,8 @@ use lib.ListN.{length}
 use lib.Dec.{ltb, leb, eqb}
 use borrow.Author.Tests.{lt-ltb, le-ltb, le-leb, lt-leb, eq-eqb, ne-eqb, leb-true}
 use Rattle.instance.proofs.Order.{and-parts}
-use Rattle.job.specs.Numbers.{largestWord, decimalBy, decimal, wordText, wordsText, hexDigit, hexText, Words, Bytes, isDigit, allDigits, wordOf, hexValue, hexPair, hexBytes}
+use Rattle.job.specs.Numbers.{largestWord, decimalBy, decimal, wordText, wordsText, hexDigit, hexText}
+use Rattle.job.specs.Numbers.{Words, Bytes, isDigit, allDigits, wordOf, hexValue, hexPair, hexBytes}
 use Rattle.job.specs.Lines.{lineFeed, comma, textOfLines, inFront, linesOf, isEnded, fieldsOf, after}
 use Rattle.job.specs.Reading.{wordsOf, andThen}
 use Rattle.job.proofs.Decimals.{lt-or-ge, all-digits, word-back}
@@ -46,7 +47,9 @@ lacks-word c w h = go (eqb w largestWord) refl
 pub lacks-words : (c : ℕ) (ws : List ℕ) → c < 44 → Lacks c (wordsText ws)
 lacks-words c [] h = tt
 lacks-words c (w ∷ []) h = lacks-word c w (omega arith)
-lacks-words c (w ∷ v ∷ ws) h = lacks-append c (wordText w) (44 ∷ wordsText (v ∷ ws)) (lacks-word c w (omega arith)) (λ z. omega arith, lacks-words c (v ∷ ws) h)
+lacks-words c (w ∷ v ∷ ws) h =
+    lacks-append c (wordText w) (44 ∷ wordsText (v ∷ ws))
+    (lacks-word c w (omega arith)) (λ z. omega arith, lacks-words c (v ∷ ws) h)
 
 hex-low : (n : ℕ) → 48 ≤ hexDigit n
 hex-low n = ⊎-elim (λ l. rw (lt-ltb n 10 l) (omega arith)) (λ l. rw (le-ltb n 10 l) (omega arith)) (lt-or-ge n 10)
@@ -85,7 +88,9 @@ ended-more (c ∷ d ∷ l) text h = ended-more (d ∷ l) text h
 
 pub lines-ended : (l : List ℕ) (lines : List (List ℕ)) → isEnded (textOfLines (l ∷ lines)) ≡ true
 lines-ended l [] = ended-more l (lineFeed ∷ []) refl
-lines-ended l (m ∷ lines) = ended-more l (lineFeed ∷ textOfLines (m ∷ lines)) (ended-more (lineFeed ∷ []) (textOfLines (m ∷ lines)) (lines-ended m lines))
+lines-ended l (m ∷ lines) =
+    ended-more l (lineFeed ∷ textOfLines (m ∷ lines))
+    (ended-more (lineFeed ∷ []) (textOfLines (m ∷ lines)) (lines-ended m lines))
 
 -- keys
 pub after-back : (key l : List ℕ) → after key (key ++ l) ≡ some l
@@ -103,14 +108,17 @@ field-more (c ∷ f) rest h = rw (ne-eqb c comma (h .0), field-more f rest (h .1
 
 fields-back : (w : ℕ) (ws : List ℕ) → fieldsOf (wordsText (w ∷ ws)) ≡ map wordText (w ∷ ws)
 fields-back w [] = field-last (wordText w) (lacks-word comma w (omega arith))
-fields-back w (v ∷ ws) = field-more (wordText w) (wordsText (v ∷ ws)) (lacks-word comma w (omega arith)) ∙ ap (λ r. wordText w ∷ r) (fields-back v ws)
+fields-back w (v ∷ ws) =
+    field-more (wordText w) (wordsText (v ∷ ws)) (lacks-word comma w (omega arith))
+    ∙ ap (λ r. wordText w ∷ r) (fields-back v ws)
 
 -- words
 words-of : (ws : List ℕ) → Words ws → wordsOf (length ws) (map wordText ws) ≡ some ws
 words-of [] h = refl
 words-of (w ∷ ws) h = rw (word-back w (h .0), words-of ws (h .1))
 
-pub words-back : (ws : List ℕ) (n : ℕ) → length ws ≡ suc n → Words ws → wordsOf (suc n) (fieldsOf (wordsText ws)) ≡ some ws
+pub words-back : (ws : List ℕ) (n : ℕ) → length ws ≡ suc n
+    → Words ws → wordsOf (suc n) (fieldsOf (wordsText ws)) ≡ some ws
 words-back [] n e h = absurd (omega arith)
 words-back (w ∷ ws) n e h = rw (← e, fields-back w ws) (words-of (w ∷ ws) h)
 
@@ -119,10 +127,21 @@ hex-back : (n : ℕ) → n < 16 → hexValue (hexDigit n) ≡ some n
 hex-back n h = ⊎-elim digit letter (lt-or-ge n 10)
   where
     digit : n < 10 → hexValue (hexDigit n) ≡ some n
-    digit l = let e : 48 + n - 48 ≡ n = omega arith in rw (lt-ltb n 10 l, le-leb 48 (48 + n) (omega arith), le-leb (48 + n) 57 (omega arith), e)
+    digit l =
+        let e : 48 + n - 48 ≡ n = omega arith in
+        rw (lt-ltb n 10 l, le-leb 48 (48 + n) (omega arith), le-leb (48 + n) 57 (omega arith), e)
 
     letter : 10 ≤ n → hexValue (hexDigit n) ≡ some n
-    letter l = let e : 87 + n - 87 ≡ n = omega arith in rw (le-ltb n 10 l, le-leb 48 (87 + n) (omega arith), lt-leb (87 + n) 57 (omega arith), le-leb 97 (87 + n) (omega arith), le-leb (87 + n) 102 (omega arith), e)
+    letter l =
+        let e : 87 + n - 87 ≡ n = omega arith in
+        rw (
+          le-ltb n 10 l,
+          le-leb 48 (87 + n) (omega arith),
+          lt-leb (87 + n) 57 (omega arith),
+          le-leb 97 (87 + n) (omega arith),
+          le-leb (87 + n) 102 (omega arith),
+          e,
+        )
 
 pub bytes-back : (bytes : List ℕ) → Bytes bytes → hexBytes (hexText bytes) ≡ some bytes
 bytes-back [] h = refl

@@ -24,7 +24,8 @@ some-field : (l : List ℕ) → wordsOf 0 (fieldsOf l) ≡ none
 some-field [] = refl
 some-field (c ∷ l) = go (eqb c comma) (fieldsOf l) (some-field l)
   where
-    go : (t : Bool) (fields : List (List ℕ)) → wordsOf 0 fields ≡ none → wordsOf 0 (cond t ([] ∷ fieldsOf l) (inFront c fields)) ≡ none
+    go : (t : Bool) (fields : List (List ℕ)) → wordsOf 0 fields ≡ none
+        → wordsOf 0 (cond t ([] ∷ fieldsOf l) (inFront c fields)) ≡ none
     go true fields e = refl
     go false [] e = e
     go false (f ∷ fields) e = refl
@@ -46,11 +47,13 @@ module _ (text : List ℕ) (start : ℕ) where
   words-missing (suc left) l h = rw (lt-leb start (length text) h)
 
 module _ {text : List ℕ} {start end : ℕ} (field : FieldEnd text start end) where
-  pub words-wrong : (left : ℕ) → 0 < left → wordOf (between text start end) ≡ none → wordsOf left (fieldsFrom text start) ≡ none
+  pub words-wrong : (left : ℕ) → 0 < left → wordOf (between text start end) ≡ none
+      → wordsOf left (fieldsFrom text start) ≡ none
   words-wrong zero l e = absurd (omega arith)
   words-wrong (suc left) l e = ap (wordsOf (suc left)) (field .splits) ∙ rw e
 
-  pub words-more : (left : ℕ) → 0 < left → {w : ℕ} → wordOf (between text start end) ≡ some w → wordsOf left (fieldsFrom text start) ≡ prepend (w ∷ []) (wordsOf (left - 1) (fieldsFrom text (end + 1)))
+  pub words-more : (left : ℕ) → 0 < left → {w : ℕ} → wordOf (between text start end) ≡ some w
+      → wordsOf left (fieldsFrom text start) ≡ prepend (w ∷ []) (wordsOf (left - 1) (fieldsFrom text (end + 1)))
   words-more zero l e = absurd (omega arith)
   words-more (suc left) l {w} e =
       let p : suc left - 1 ≡ left = omega arith in

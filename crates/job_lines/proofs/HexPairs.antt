@@ -21,7 +21,8 @@ module _ (text : List ℕ) (i : ℕ) where
   two h =
       let e : i + 1 + 1 ≡ i + 2 = omega arith in
       drop-one text i (omega arith)
-      ∙ ap (λ (l : List ℕ). getD text i 0 ∷ l) (drop-one text (i + 1) h ∙ ap (λ (k : ℕ). getD text (i + 1) 0 ∷ drop k text) e)
+      ∙ ap (λ (l : List ℕ). getD text i 0 ∷ l) (drop-one text (i + 1) h
+      ∙ ap (λ (k : ℕ). getD text (i + 1) 0 ∷ drop k text) e)
 
   -- one digit alone
   pub hex-odd : i < length text → length text - i < 2 → hexBytes (drop i text) ≡ none
@@ -32,16 +33,22 @@ module _ (text : List ℕ) (i : ℕ) where
 
   module _ (h : i + 1 < length text) where
     pub hex-no-high : hexValue (getD text i 0) ≡ none → hexBytes (drop i text) ≡ none
-    hex-no-high e = ap hexBytes (two h) ∙ ap (λ (v : Option ℕ). hexPair v (hexValue (getD text (i + 1) 0)) (hexBytes (drop (i + 2) text))) e
+    hex-no-high e =
+        ap hexBytes (two h)
+        ∙ ap (λ (v : Option ℕ). hexPair v (hexValue (getD text (i + 1) 0)) (hexBytes (drop (i + 2) text))) e
 
     module _ {high : ℕ} (e : hexValue (getD text i 0) ≡ some high) where
-      with-high : hexBytes (drop i text) ≡ hexPair (some high) (hexValue (getD text (i + 1) 0)) (hexBytes (drop (i + 2) text))
-      with-high = ap hexBytes (two h) ∙ ap (λ (v : Option ℕ). hexPair v (hexValue (getD text (i + 1) 0)) (hexBytes (drop (i + 2) text))) e
+      with-high : hexBytes (drop i text)
+          ≡ hexPair (some high) (hexValue (getD text (i + 1) 0)) (hexBytes (drop (i + 2) text))
+      with-high =
+          ap hexBytes (two h)
+          ∙ ap (λ (v : Option ℕ). hexPair v (hexValue (getD text (i + 1) 0)) (hexBytes (drop (i + 2) text))) e
 
       pub hex-no-low : hexValue (getD text (i + 1) 0) ≡ none → hexBytes (drop i text) ≡ none
       hex-no-low f = with-high ∙ ap (λ (v : Option ℕ). hexPair (some high) v (hexBytes (drop (i + 2) text))) f
 
-      pub hex-more : {low : ℕ} → hexValue (getD text (i + 1) 0) ≡ some low → hexBytes (drop i text) ≡ prepend ((high * 16 + low) ∷ []) (hexBytes (drop (i + 2) text))
+      pub hex-more : {low : ℕ} → hexValue (getD text (i + 1) 0) ≡ some low
+          → hexBytes (drop i text) ≡ prepend ((high * 16 + low) ∷ []) (hexBytes (drop (i + 2) text))
       hex-more {low} f =
           with-high
           ∙ ap (λ (v : Option ℕ). hexPair (some high) v (hexBytes (drop (i + 2) text))) f
@@ -51,7 +58,8 @@ module _ (text : List ℕ) (i : ℕ) where
 pub hex-small : (c : ℕ) {v : ℕ} → hexValue c ≡ some v → v < 16
 hex-small c {v} = by-digit (leb 48 c) (leb c 57) (leb-true c 57) (leb 97 c) (leb c 102) (leb-true c 102)
   where
-    by-digit : (a b : Bool) → (b ≡ true → c ≤ 57) → (d f : Bool) → (f ≡ true → c ≤ 102) → cond (a && b) (some (c - 48)) (cond (d && f) (some (c - 87)) none) ≡ some v → v < 16
+    by-digit : (a b : Bool) → (b ≡ true → c ≤ 57) → (d f : Bool) → (f ≡ true → c ≤ 102)
+        → cond (a && b) (some (c - 48)) (cond (d && f) (some (c - 87)) none) ≡ some v → v < 16
     by-digit true true h d f l e = let q : c - 48 ≡ v = cc in omega (arith, h refl)
     by-digit true false h true true l e = let q : c - 87 ≡ v = cc in omega (arith, l refl)
     by-digit false b h true true l e = let q : c - 87 ≡ v = cc in omega (arith, l refl)

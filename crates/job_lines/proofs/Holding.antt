@@ -19,7 +19,9 @@ pub record Promised (reading : Reading) (room : Room) (r : Held) (bytes ends sch
   pub outputs : OutputsHold (tablesIn reading) room bytes ends schema instance
 
 -- outputs as long as others
-pub in-room : {t : Tables} {room other : Room} {bytes ends schema instance : List ℕ} → OutputsHold t room bytes ends schema instance → room .bytes ≡ other .bytes → room .ends ≡ other .ends → room .schema ≡ other .schema → room .instance ≡ other .instance → OutputsHold t other bytes ends schema instance
+pub in-room : {t : Tables} {room other : Room} {bytes ends schema instance : List ℕ}
+    → OutputsHold t room bytes ends schema instance → room .bytes ≡ other .bytes → room .ends ≡ other .ends
+    → room .schema ≡ other .schema → room .instance ≡ other .instance → OutputsHold t other bytes ends schema instance
 in-room {t} h p q u v = record {
   of-bytes = h .of-bytes ∙ ap (λ (n : ℕ). laid n (t .strings .bytes)) p;
   of-ends = h .of-ends ∙ ap (λ (n : ℕ). laid n (t .strings .ends)) q;
@@ -31,8 +33,10 @@ lays : (n : ℕ) (run : List ℕ) {out out′ : List ℕ} → out ≡ laid n [] 
 lays n run e f = f ∙ ap (λ (o : List ℕ). sets o 0 run) (e ∙ laid-none n) ∙ sets-zeros n run
 
 -- the lines were read into outputs that were zeros
-module _ {room : Room} {z₁ z₂ z₃ z₄ : List ℕ} (zero : OutputsHold noTables room z₁ z₂ z₃ z₄) (file bytes ends schema instance : List ℕ) where
-  holds : {b s r i : ℕ} (t : LinesTo file z₁ z₂ z₃ z₄ bytes ends schema instance b s r i) → OutputsHold (t .tables) room bytes ends schema instance
+module _ {room : Room} {z₁ z₂ z₃ z₄ : List ℕ} (zero : OutputsHold noTables room z₁ z₂ z₃ z₄)
+    (file bytes ends schema instance : List ℕ) where
+  holds : {b s r i : ℕ} (t : LinesTo file z₁ z₂ z₃ z₄ bytes ends schema instance b s r i)
+      → OutputsHold (t .tables) room bytes ends schema instance
   holds t = record {
     of-bytes = lays (room .bytes) (t .tables .strings .bytes) (zero .of-bytes) (t .bytes-hold);
     of-ends = lays (room .ends) (t .tables .strings .ends) (zero .of-ends) (t .ends-hold);
@@ -49,5 +53,6 @@ module _ {room : Room} {z₁ z₂ z₃ z₄ : List ℕ} (zero : OutputsHold noTa
           outputs = rw (t .reads) (holds t);
         }
 
-    pub as-wrong : {n : ℕ} → h ≡ held.Wrong n → {p₁ p₂ p₃ p₄ : List ℕ} → OutputsHold noTables room p₁ p₂ p₃ p₄ → Promised (readJob file) room (held.Wrong n) p₁ p₂ p₃ p₄
+    pub as-wrong : {n : ℕ} → h ≡ held.Wrong n → {p₁ p₂ p₃ p₄ : List ℕ}
+        → OutputsHold noTables room p₁ p₂ p₃ p₄ → Promised (readJob file) room (held.Wrong n) p₁ p₂ p₃ p₄
     as-wrong e again = let w = rw e at kept in record { answer = rw w; outputs = rw w again }

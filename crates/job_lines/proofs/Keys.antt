@@ -14,10 +14,12 @@ use Rattle.job_lines.specs.Parts.{KeyTo}
 use Rattle.tables.proofs.Parts.{drop-one}
 
 module _ (key line : List ℕ) (i : ℕ) where
-  pub key-more : i < length key → i < length line → getD line i 0 ≡ getD key i 0 → after (drop i key) (drop i line) ≡ after (drop (i + 1) key) (drop (i + 1) line)
+  pub key-more : i < length key → i < length line → getD line i 0 ≡ getD key i 0
+      → after (drop i key) (drop i line) ≡ after (drop (i + 1) key) (drop (i + 1) line)
   key-more h l e = rw (drop-one key i h, drop-one line i l, eq-eqb (getD line i 0) (getD key i 0) e)
 
-  pub key-differs : i < length key → i < length line → getD line i 0 ≢ getD key i 0 → after (drop i key) (drop i line) ≡ none
+  pub key-differs : i < length key → i < length line
+      → getD line i 0 ≢ getD key i 0 → after (drop i key) (drop i line) ≡ none
   key-differs h l n = rw (drop-one key i h, drop-one line i l, ne-eqb (getD line i 0) (getD key i 0) n)
 
   pub key-beyond : i < length key → length line ≤ i → after (drop i key) (drop i line) ≡ none

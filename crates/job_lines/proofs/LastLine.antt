@@ -30,7 +30,8 @@ no-front c [] e = refl
 no-front c (l ∷ runs) e = cc
 
 -- where there is no line, the first byte is no LF, and no line follows it
-no-lines : (t : Bool) (c : ℕ) (rest : List (List ℕ)) → cond t ([] ∷ rest) (inFront c rest) ≡ [] → (t ≡ false) × (rest ≡ [])
+no-lines : (t : Bool) (c : ℕ) (rest : List (List ℕ))
+    → cond t ([] ∷ rest) (inFront c rest) ≡ [] → (t ≡ false) × (rest ≡ [])
 no-lines true c rest e = (cc, cc)
 no-lines false c rest e = (refl, no-front c rest e)
 
@@ -48,7 +49,8 @@ module _ (file : List ℕ) (t : Tables) (n : ℕ) where
       go [] e = let f : isEnded file ≡ false = sym (ended-drop file p h) ∙ not-ended (drop p file) e in rw f
       go (l ∷ rest) e = refl
 
-  pub nothing-follows : (e : ℕ) → e < length file → length file ≤ e + 1 → getD file e 0 ≡ lineFeed → nothingMore file t n (linesOf (drop (e + 1) file)) ≡ read t
+  pub nothing-follows : (e : ℕ) → e < length file → length file ≤ e + 1
+      → getD file e 0 ≡ lineFeed → nothingMore file t n (linesOf (drop (e + 1) file)) ≡ read t
   nothing-follows e h k f =
       ap (λ (l : List ℕ). nothingMore file t n (linesOf l)) (drop-of-length-le file k)
       ∙ ap (λ (b : Bool). cond b (read t) (wrong n)) (ended file e h k f)

@@ -13,7 +13,8 @@ use Rattle.strings.specs.Strings.{maxBytes}
 use Rattle.job.specs.Ascii.{ascii}
 use Rattle.job.specs.Numbers.{numberOf, hexBytes}
 use Rattle.job.specs.Lines.{fieldsOf, after}
-use Rattle.job.specs.Reading.{line, lineBy, literal, isNothing, andThen, count, atMost, withString, addString, wordsOf, rowOf}
+use Rattle.job.specs.Reading.{line, lineBy, literal, isNothing, andThen, count}
+use Rattle.job.specs.Reading.{atMost, withString, addString, wordsOf, rowOf}
 use Rattle.job_lines.specs.Parts.{stringAfter}
 use Rattle.job_lines.specs.Steps.{TakesLine, Stops}
 
@@ -24,10 +25,14 @@ module _ {A : Type 0} (holds : List ℕ → Option A) {ls : List (List ℕ)} whe
 
   module _ (l : List ℕ) (rest : List (List ℕ)) (e : ls ≡ l ∷ rest) where
     pub line-passes : {a : A} → holds l ≡ some a → TakesLine holds ls a rest
-    line-passes f = record { on = λ n next. ap (λ (x : List (List ℕ)). line holds n x next) e ∙ ap (λ (o : Option A). lineBy o n rest next) f }
+    line-passes f = record {
+      on = λ n next. ap (λ (x : List (List ℕ)). line holds n x next) e ∙ ap (λ (o : Option A). lineBy o n rest next) f;
+    }
 
     pub line-stops : holds l ≡ none → Stops holds ls
-    line-stops f = record { on = λ n next. ap (λ (x : List (List ℕ)). line holds n x next) e ∙ ap (λ (o : Option A). lineBy o n rest next) f }
+    line-stops f = record {
+      on = λ n next. ap (λ (x : List (List ℕ)). line holds n x next) e ∙ ap (λ (o : Option A). lineBy o n rest next) f;
+    }
 
 -- ---- what a line holds
 pub literal-same : (text : List ℕ) → literal text text ≡ some []
@@ -40,7 +45,8 @@ literal-other [] (c ∷ l) n = refl
 literal-other (k ∷ text) [] n = refl
 literal-other (k ∷ text) (c ∷ l) n = go (eqb c k) refl (literal-other text l)
   where
-    go : (t : Bool) → eqb c k ≡ t → (¬ (l ≡ text) → literal text l ≡ none) → andThen (cond t (after text l) none) isNothing ≡ none
+    go : (t : Bool) → eqb c k ≡ t → (¬ (l ≡ text) → literal text l ≡ none)
+        → andThen (cond t (after text l) none) isNothing ≡ none
     go true e other = other (λ q. n (let f = eqb-true c k e in cc))
     go false e other = refl
 
@@ -50,10 +56,14 @@ module _ (key : List ℕ) (limit : ℕ) (l : List ℕ) where
 
   module _ {text : List ℕ} (e : after key l ≡ some text) where
     pub count-no-number : numberOf text ≡ none → count key limit l ≡ none
-    count-no-number f = ap (λ (o : Option (List ℕ)). andThen o (λ text. andThen (numberOf text) (atMost limit))) e ∙ ap (λ (o : Option ℕ). andThen o (atMost limit)) f
+    count-no-number f =
+        ap (λ (o : Option (List ℕ)). andThen o (λ text. andThen (numberOf text) (atMost limit))) e
+        ∙ ap (λ (o : Option ℕ). andThen o (atMost limit)) f
 
     count-at-most : {n : ℕ} → numberOf text ≡ some n → count key limit l ≡ atMost limit n
-    count-at-most f = ap (λ (o : Option (List ℕ)). andThen o (λ text. andThen (numberOf text) (atMost limit))) e ∙ ap (λ (o : Option ℕ). andThen o (atMost limit)) f
+    count-at-most f =
+        ap (λ (o : Option (List ℕ)). andThen o (λ text. andThen (numberOf text) (atMost limit))) e
+        ∙ ap (λ (o : Option ℕ). andThen o (atMost limit)) f
 
     pub count-over : {n : ℕ} → numberOf text ≡ some n → limit < n → count key limit l ≡ none
     count-over {n} f h = count-at-most f ∙ rw (lt-leb n limit h)
@@ -83,43 +93,61 @@ module _ (used : ℕ) (l : List ℕ) where
     pub string-no-bytes : hexBytes digits ≡ none → stringAfter used l ≡ none
     string-no-bytes f = string-digits ∙ ap (λ (o : Option (List ℕ)). andThen o (withinBytes used)) f
 
-    pub string-over : {text : List ℕ} → hexBytes digits ≡ some text → maxBytes < used + length text → stringAfter used l ≡ none
-    string-over {text} f h = string-digits ∙ ap (λ (o : Option (List ℕ)). andThen o (withinBytes used)) f ∙ rw (lt-leb (used + length text) maxBytes h)
+    pub string-over : {text : List ℕ} → hexBytes digits ≡ some text
+        → maxBytes < used + length text → stringAfter used l ≡ none
+    string-over {text} f h =
+        string-digits ∙ ap (λ (o : Option (List ℕ)). andThen o (withinBytes used)) f
+        ∙ rw (lt-leb (used + length text) maxBytes h)
 
-    pub string-is : {text : List ℕ} → hexBytes digits ≡ some text → used + length text ≤ maxBytes → stringAfter used l ≡ some text
-    string-is {text} f h = string-digits ∙ ap (λ (o : Option (List ℕ)). andThen o (withinBytes used)) f ∙ rw (le-leb (used + length text) maxBytes h)
+    pub string-is : {text : List ℕ} → hexBytes digits ≡ some text
+        → used + length text ≤ maxBytes → stringAfter used l ≡ some text
+    string-is {text} f h =
+        string-digits ∙ ap (λ (o : Option (List ℕ)). andThen o (withinBytes used)) f
+        ∙ rw (le-leb (used + length text) maxBytes h)
 
 -- a string that is read keeps the limit
-pub string-keeps : (used : ℕ) (l : List ℕ) {text : List ℕ} → stringAfter used l ≡ some text → used + length text ≤ maxBytes
+pub string-keeps : (used : ℕ) (l : List ℕ) {text : List ℕ}
+    → stringAfter used l ≡ some text → used + length text ≤ maxBytes
 string-keeps used l {text} = by-key (after (ascii "s=") l)
   where
-    by-test : (run : List ℕ) (t : Bool) → leb (used + length run) maxBytes ≡ t → cond t (some run) none ≡ some text → used + length text ≤ maxBytes
-    by-test run true e q = let f : run ≡ text = Option·some-injective run text q in rw f at (leb-true (used + length run) maxBytes e)
+    by-test : (run : List ℕ) (t : Bool) → leb (used + length run) maxBytes ≡ t
+        → cond t (some run) none ≡ some text → used + length text ≤ maxBytes
+    by-test run true e q =
+        let f : run ≡ text = Option·some-injective run text q in
+        rw f at (leb-true (used + length run) maxBytes e)
     by-test run false e q = let z : _≡_ {A = ℕ} 0 1 = cc in absurd (omega arith)
 
     by-digits : (o : Option (List ℕ)) → andThen o (withinBytes used) ≡ some text → used + length text ≤ maxBytes
     by-digits none q = let z : _≡_ {A = ℕ} 0 1 = cc in absurd (omega arith)
     by-digits (some run) q = by-test run (leb (used + length run) maxBytes) refl q
 
-    by-key : (o : Option (List ℕ)) → andThen o (λ digits. andThen (hexBytes digits) (withinBytes used)) ≡ some text → used + length text ≤ maxBytes
+    by-key : (o : Option (List ℕ)) → andThen o (λ digits. andThen (hexBytes digits) (withinBytes used)) ≡ some text
+        → used + length text ≤ maxBytes
     by-key none q = let z : _≡_ {A = ℕ} 0 1 = cc in absurd (omega arith)
     by-key (some digits) q = by-digits (hexBytes digits) q
 
 -- a string line adds its bytes and their end
 abbrev pub withText : Tables → List ℕ → Tables
-withText t text = tablesOf (stringTable (t .strings .bytes ++ text) (t .strings .ends ++ (length (t .strings .bytes) + length text) ∷ [])) (t .schema) (t .instance)
+withText t text =
+    tablesOf (stringTable (t .strings .bytes ++ text)
+    (t .strings .ends ++ (length (t .strings .bytes) + length text) ∷ [])) (t .schema) (t .instance)
 
-pub string-adds : (t : Tables) (l : List ℕ) → addString t l ≡ andThen (stringAfter (length (t .strings .bytes)) l) (λ text. some (withText t text))
+pub string-adds : (t : Tables) (l : List ℕ)
+    → addString t l ≡ andThen (stringAfter (length (t .strings .bytes)) l) (λ text. some (withText t text))
 string-adds t l = by-key (after (ascii "s=") l)
   where
-    by-test : (text : List ℕ) (b : Bool) → cond b (some (withText t text)) none ≡ andThen (cond b (some text) none) (λ text. some (withText t text))
+    by-test : (text : List ℕ) (b : Bool)
+        → cond b (some (withText t text)) none ≡ andThen (cond b (some text) none) (λ text. some (withText t text))
     by-test text true = refl
     by-test text false = refl
 
-    by-digits : (o : Option (List ℕ)) → andThen o (withString t) ≡ andThen (andThen o (withinBytes (length (t .strings .bytes)))) (λ text. some (withText t text))
+    by-digits : (o : Option (List ℕ)) → andThen o (withString t)
+        ≡ andThen (andThen o (withinBytes (length (t .strings .bytes)))) (λ text. some (withText t text))
     by-digits none = refl
     by-digits (some text) = by-test text (leb (length (t .strings .bytes) + length text) maxBytes)
 
-    by-key : (o : Option (List ℕ)) → andThen o (λ digits. andThen (hexBytes digits) (withString t)) ≡ andThen (andThen o (λ digits. andThen (hexBytes digits) (withinBytes (length (t .strings .bytes))))) (λ text. some (withText t text))
+    by-key : (o : Option (List ℕ)) → andThen o (λ digits. andThen (hexBytes digits) (withString t))
+        ≡ andThen (andThen o (λ digits. andThen (hexBytes digits) (withinBytes (length (t .strings .bytes))))) (λ text.
+        some (withText t text))
     by-key none = refl
     by-key (some digits) = by-digits (hexBytes digits)

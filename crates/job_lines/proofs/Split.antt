@@ -15,7 +15,8 @@ use Rattle.tables.proofs.Parts.{drop-one}
 use Rattle.job_lines.specs.Parts.{LineTo, FieldEnd}
 
 -- one byte more
-pub between-more : (s : List ℕ) (from i : ℕ) → from ≤ i → i < length s → between s from (i + 1) ≡ between s from i ++ getD s i 0 ∷ []
+pub between-more : (s : List ℕ) (from i : ℕ) → from ≤ i → i < length s
+    → between s from (i + 1) ≡ between s from i ++ getD s i 0 ∷ []
 between-more s from i h l =
     let e : i + 1 - from ≡ suc (i - from) = omega arith in
     let f : from + (i - from) ≡ i = omega arith in
@@ -84,7 +85,8 @@ module _ {sep : ℕ} {split : List ℕ → List (List ℕ)} (rule : Splits sep s
         ∙ ap (λ (p : List ℕ). p ∷ split (drop (i + 1) s)) (append-nil (between s at i))
 
 -- a line: from a position to the first LF, or no line where there is none
-pub line-to : {file : List ℕ} {at i : ℕ} → Scanned linesOf file at i → i < length file → getD file i 0 ≡ lineFeed → LineTo file at i
+pub line-to : {file : List ℕ} {at i : ℕ} → Scanned linesOf file at i
+    → i < length file → getD file i 0 ≡ lineFeed → LineTo file at i
 line-to {file} scanned h e = record {
   from = scanned .from;
   within = h;
@@ -93,11 +95,16 @@ line-to {file} scanned h e = record {
 }
 
 pub no-line : {file : List ℕ} {at i : ℕ} → Scanned linesOf file at i → length file ≤ i → linesOf (drop at file) ≡ []
-no-line {file} {at} {i} scanned h = scanned .splits ∙ ap (λ (l : List ℕ). joined (between file at i) (linesOf l)) (drop-of-length-le file h)
+no-line {file} {at} {i} scanned h =
+    scanned .splits ∙ ap (λ (l : List ℕ). joined (between file at i) (linesOf l)) (drop-of-length-le file h)
 
 pub line-short : {file : List ℕ} {at e : ℕ} → LineTo file at e → length (between file at e) ≤ length file
 line-short {file} {at} {e} l =
-    omega (arith, l .within, length-take-le (e - at) (drop at file) (simp length-drop (omega (arith, l .from, l .within))))
+    omega (
+      arith,
+      l .within,
+      length-take-le (e - at) (drop at file) (simp length-drop (omega (arith, l .from, l .within))),
+    )
 
 -- a field: from a position to the first comma, or to the end of the text
 module _ {text : List ℕ} {at i : ℕ} (scanned : Scanned fieldsOf text at i) where

@@ -18,22 +18,28 @@ prepend-none : (rest : Option (List ℕ)) → rest ≡ prepend [] rest
 prepend-none none = refl
 prepend-none (some rest) = refl
 
-prepend-more : (run : List ℕ) (v : ℕ) (rest : Option (List ℕ)) → prepend run (prepend (v ∷ []) rest) ≡ prepend (run ++ v ∷ []) rest
+prepend-more : (run : List ℕ) (v : ℕ) (rest : Option (List ℕ))
+    → prepend run (prepend (v ∷ []) rest) ≡ prepend (run ++ v ∷ []) rest
 prepend-more run v none = refl
 prepend-more run v (some rest) = ap some (sym (append-assoc run (v ∷ []) rest))
 
 -- of the whole a run is read and stored, up to a position, and the rest is to be read
-pub record Storing (whole : Option (List ℕ)) (out : List ℕ) (from : ℕ) (now : List ℕ) (to : ℕ) (rest : Option (List ℕ)) : Type 0 where
+pub record Storing (whole : Option (List ℕ)) (out : List ℕ) (from : ℕ)
+    (now : List ℕ) (to : ℕ) (rest : Option (List ℕ)) : Type 0 where
   pub run : List ℕ
   pub is : whole ≡ prepend run rest
   pub stored : now ≡ sets out from run
   pub ends : to ≡ from + length run
 
-pub storing-none : {whole rest : Option (List ℕ)} (out : List ℕ) (from : ℕ) → whole ≡ rest → Storing whole out from out from rest
-storing-none {whole} {rest} out from e = record { run = []; is = e ∙ prepend-none rest; stored = refl; ends = omega arith }
+pub storing-none : {whole rest : Option (List ℕ)} (out : List ℕ) (from : ℕ)
+    → whole ≡ rest → Storing whole out from out from rest
+storing-none {whole} {rest} out from e =
+    record { run = []; is = e ∙ prepend-none rest; stored = refl; ends = omega arith }
 
-module _ {whole : Option (List ℕ)} {out : List ℕ} {from : ℕ} {now : List ℕ} {to : ℕ} {rest : Option (List ℕ)} (s : Storing whole out from now to rest) where
-  pub storing-more : (v : ℕ) {then : List ℕ} {after : Option (List ℕ)} → rest ≡ prepend (v ∷ []) after → then ≡ set now to v → Storing whole out from then (to + 1) after
+module _ {whole : Option (List ℕ)} {out : List ℕ} {from : ℕ} {now : List ℕ}
+    {to : ℕ} {rest : Option (List ℕ)} (s : Storing whole out from now to rest) where
+  pub storing-more : (v : ℕ) {then : List ℕ} {after : Option (List ℕ)} → rest ≡ prepend (v ∷ []) after
+      → then ≡ set now to v → Storing whole out from then (to + 1) after
   storing-more v {then} {after} e f = record {
     run = s .run ++ v ∷ [];
     is = s .is ∙ ap (prepend (s .run)) e ∙ prepend-more (s .run) v after;

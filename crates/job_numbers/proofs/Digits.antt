@@ -10,7 +10,8 @@ use native.Mathlib.Omega.{arith}
 use lib.ListN.{length, getD}
 use lib.Dec.{eqb}
 use borrow.Author.Tests.{le-leb, lt-leb, eq-eqb, ne-eqb}
-use Rattle.job.specs.Numbers.{isDigit, allDigits, noLeadingZero, valueFrom, numberOf, wordOf, hexValue, largestNumber, largestWord}
+use Rattle.job.specs.Numbers.{isDigit, allDigits, noLeadingZero, valueFrom, numberOf}
+use Rattle.job.specs.Numbers.{wordOf, hexValue, largestNumber, largestWord}
 use Rattle.job_numbers.specs.Answers.{asNumber, digitsOf}
 use Rattle.job_numbers.specs.declared.Number.the-variants.{Value, NoNumber}
 

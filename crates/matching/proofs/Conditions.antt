@@ -36,7 +36,8 @@ module _ (a marked : ℕ) (ha : a < 2 ^ 64) (hm : marked < 2 ^ 64) where
   one-in-counts o = one-member a .1 (o .0, o .1)
 
   pub one-in-tests : OneIn a marked → bitAnd a (2 ^ 64 - 1 - marked) ≡ 0
-  one-in-tests o = subset-test 64 a marked ha hm .1 (λ x h. subst (λ (y : ℕ). bit marked y ≡ true) (sym (o .1 .only x h)) (o .2))
+  one-in-tests o =
+      subset-test 64 a marked ha hm .1 (λ x h. subst (λ (y : ℕ). bit marked y ≡ true) (sym (o .1 .only x h)) (o .2))
 
 -- ---- a run of words of which the part from 64 on was lent, and came back as u
 
@@ -45,7 +46,9 @@ module _ {m : ℕ} (few : m ≤ positions) (n : ℕ) (v u : List ℕ) (room : po
   front-put = sym (take-take m 64 (putMid 64 n v u) few) ∙ ap (take m) (take-put 64 n v u room) ∙ take-take m 64 v few
 
   pub next-put : m ≤ length u → next m (putMid 64 n v u) ≡ front m u
-  next-put h = ap (take m) (drop-at (take 64 v) (u ++ postOf 64 n v) 64 (length-take-le 64 v room)) ∙ take-append-le m u (postOf 64 n v) h
+  next-put h =
+      ap (take m) (drop-at (take 64 v) (u ++ postOf 64 n v) 64 (length-take-le 64 v room))
+      ∙ take-append-le m u (postOf 64 n v) h
 
 -- ---- repetitions
 
@@ -59,12 +62,19 @@ module _ (m a k alone : ℕ) (R : Relation) (ha : a < 2 ^ 64) (hl : alone < 2 ^ 
   pub repeats-items : {w : List ℕ} → a ≡ 0 → Is w (Plus R) → Is w (Repetition m a k alone R)
   repeats-items z is =
       where-holds (λ x h. absurd (none-has x (subst (λ (n : ℕ). bit n x ≡ true) z h)))
-      (record { sound = λ i j e. inl (is .sound i j e); complete = λ i j r. elim r [ inl q ↦ is .complete i j q | inr g ↦ absurd (let l = g .0 in omega arith) ] })
+      (record {
+        sound = λ i j e. inl (is .sound i j e);
+        complete = λ i j r. elim r [ inl q ↦ is .complete i j q | inr g ↦ absurd (let l = g .0 in omega arith) ];
+      })
 
-  pub repeats-beside : m ≤ positions → (n : ℕ) (v u : List ℕ) {w : List ℕ} → positions ≤ length v → m ≤ length u → bitAnd a (2 ^ 64 - 1 - alone) ≡ 0 → 0 < a
-      → Is (front m v) (Plus R) → Is (front m u) (Gap m k) → Is w (Or (WordsRelate (front m (putMid 64 n v u))) (WordsRelate (next m (putMid 64 n v u)))) → Is w (Repetition m a k alone R)
+  pub repeats-beside : m ≤ positions → (n : ℕ) (v u : List ℕ) {w : List ℕ}
+      → positions ≤ length v → m ≤ length u → bitAnd a (2 ^ 64 - 1 - alone) ≡ 0 → 0 < a
+      → Is (front m v) (Plus R) → Is (front m u) (Gap m k)
+      → Is w (Or (WordsRelate (front m (putMid 64 n v u))) (WordsRelate (next m (putMid 64 n v u))))
+      → Is w (Repetition m a k alone R)
   repeats-beside few n v u {w} hv hu z l is₁ is₂ is =
-      let both : Is w (Or (WordsRelate (front m v)) (WordsRelate (front m u))) = rw (front-put few n v u hv, next-put few n v u hv hu) at is in
+      let both : Is w (Or (WordsRelate (front m v)) (WordsRelate (front m u))) =
+      rw (front-put few n v u hv, next-put few n v u hv hu) at is in
       where-holds (within z)
       (record {
         sound = λ i j e. ⊎-map (is₁ .sound i j) (λ g. (l, is₂ .sound i j g)) (both .sound i j e);

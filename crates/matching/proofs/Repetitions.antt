@@ -49,11 +49,13 @@ held-plus : {m : ℕ} {R : Relation} → Up R → {i j : ℕ} → j < m → Plus
 held-plus up l (once r) = once (l, r)
 held-plus up l (more {h = h} r q) = let n = plus-up up q in more {h = h} (omega arith, r) (held-plus up l q)
 
-repeats-map : {R T : Relation} (m a k alone : ℕ) → ((i j : ℕ) → R i j → T i j) → (i j : ℕ) → Repetition m a k alone R i j → Repetition m a k alone T i j
+repeats-map : {R T : Relation} (m a k alone : ℕ) → ((i j : ℕ) → R i j → T i j)
+    → (i j : ℕ) → Repetition m a k alone R i j → Repetition m a k alone T i j
 repeats-map m a k alone f i j (h, inl q) = (h, inl (plus-map f q))
 repeats-map m a k alone f i j (h, inr g) = (h, inr g)
 
-module _ {s marks named taken single : List ℕ} (S : Setting s) (m : ℕ) {a k : ℕ} (asked : Asked S a k) (p q : ℕ) (covered : Covered S marks named taken single q) (e : patternOf s p ≡ oneOrMore q) where
+module _ {s marks named taken single : List ℕ} (S : Setting s) (m : ℕ) {a k : ℕ} (asked : Asked S a k)
+    (p q : ℕ) (covered : Covered S marks named taken single q) (e : patternOf s p ≡ oneOrMore q) where
   abbrev L : Lookups
   L = lookups (tablesIn S)
 
@@ -85,7 +87,8 @@ module _ {s marks named taken single : List ℕ} (S : Setting s) (m : ℕ) {a k 
   R : Restricted L
   R = restricted (tablesIn S) (S .passes)
 
-  single-at : (x : ℕ) → bit a x ≡ true → (bit alone x ≡ true) ↔ Match L N (only (attributeRow (S .element) x)) [] (L .pattern q)
+  single-at : (x : ℕ) → bit a x ≡ true
+      → (bit alone x ≡ true) ↔ Match L N (only (attributeRow (S .element) x)) [] (L .pattern q)
   single-at x h = row-covered S covered .singles x (asked .of-attributes x h) (R .repeats-flat p q e)
 
   no-set : a ≡ 0 → A ≡ noAttributes
@@ -95,34 +98,56 @@ module _ {s marks named taken single : List ℕ} (S : Setting s) (m : ℕ) {a k 
   without z i j = (to, from)
     where
       to : Repetition m a k alone (Related S m 0 k q) i j → Related S m a k p i j
-      to (h, inl r) = let t = steps i j .0 r in (t .0, subst (λ (B : Attributes). Span L N B (S .it) (bit k) p i j) (sym (no-set z)) (span-oneOrMore L N (S .it) (bit k) q p i j e .1 (t .1)))
+      to (h, inl r) =
+          let t = steps i j .0 r in (
+            t .0,
+            subst (λ (B : Attributes). Span L N B (S .it) (bit k) p i j) (sym (no-set z))
+                (span-oneOrMore L N (S .it) (bit k) q p i j e .1 (t .1)),
+          )
       to (h, inr (l, g)) = absurd (omega arith)
 
       from : Related S m a k p i j → Repetition m a k alone (Related S m 0 k q) i j
       from r =
-          let t = span-oneOrMore L N (S .it) (bit k) q p i j e .0 (subst (λ (B : Attributes). Span L N B (S .it) (bit k) p i j) (no-set z) (r .1)) in
+          let t = span-oneOrMore L N (S .it) (bit k) q p i j e .0
+          (subst (λ (B : Attributes). Span L N B (S .it) (bit k) p i j) (no-set z) (r .1)) in
           (λ x h. absurd (none-has x (subst (λ (n : ℕ). bit n x ≡ true) z h)), inl (steps i j .1 (r .0, t)))
 
   module _ (ha : a < 2 ^ 64) (some : 0 < a) where
     below : (r : ℕ) → A r ≡ true → r < suc (S .element) + S .attributes
-    below r h = let z = in-row (S .element) a r h in let f = z .0 in let l = asked .of-attributes (numberOf (S .element) r) (z .1) in omega arith
+    below r h =
+        let z = in-row (S .element) a r h in
+        let f = z .0 in
+        let l = asked .of-attributes (numberOf (S .element) r) (z .1) in
+        omega arith
 
     span : (i j : ℕ) → Span L N A (S .it) (bit k) p i j ↔ Repeated L N (S .it) (bit k) q A i j
     span i j =
         let x = trailingZeros 64 a in
-        span-oneOrMore-attributes L N (S .it) (bit k) q R A (suc (S .element) + S .attributes) (attributeRow (S .element) x) below (row-in (S .element) a x ∙ trailing a some ha .member) (asked .distinct) p i j e
+        span-oneOrMore-attributes L N (S .it) (bit k) q R A
+        (suc (S .element) + S .attributes) (attributeRow (S .element) x) below
+        (row-in (S .element) a x ∙ trailing a some ha .member) (asked .distinct) p i j e
 
     alone-row : Subset a alone → (r : ℕ) → A r ≡ true → Match L N (only r) [] (L .pattern q)
     alone-row h r x =
         let z = in-row (S .element) a r x in
-        subst (λ (x : ℕ). Match L N (only x) [] (L .pattern q)) (z .0) (single-at (numberOf (S .element) r) (z .1) .0 (h (numberOf (S .element) r) (z .1)))
+        subst (λ (x : ℕ). Match L N (only x) [] (L .pattern q)) (z .0)
+        (single-at (numberOf (S .element) r) (z .1) .0 (h (numberOf (S .element) r) (z .1)))
 
     beside : (i j : ℕ) → Repetition m a k alone (Related S m 0 k q) i j ↔ Related S m a k p i j
     beside i j = (to, from)
       where
         to : Repetition m a k alone (Related S m 0 k q) i j → Related S m a k p i j
-        to (h, inl r) = let t = steps i j .0 r in (t .0, span i j .1 (record { ordered = plus-up up (t .1); single = alone-row h; items = inr (t .1) }))
-        to (h, inr (l, g)) = (g .1, span i j .1 (record { ordered = g .0; single = alone-row h; items = inl (run-empty (S .it) (bit k) (g .0) .1 (g .2)) }))
+        to (h, inl r) =
+            let t = steps i j .0 r in
+            (t .0, span i j .1 (record { ordered = plus-up up (t .1); single = alone-row h; items = inr (t .1) }))
+        to (h, inr (l, g)) = (
+          g .1,
+          span i j .1 (record {
+            ordered = g .0;
+            single = alone-row h;
+            items = inl (run-empty (S .it) (bit k) (g .0) .1 (g .2));
+          }),
+        )
 
         from : Related S m a k p i j → Repetition m a k alone (Related S m 0 k q) i j
         from r =
@@ -134,9 +159,12 @@ module _ {s marks named taken single : List ℕ} (S : Setting s) (m : ℕ) {a k 
               ],
             )
 
-  pub related-oneOrMore : {w w₁ : List ℕ} → a < 2 ^ 64 → Is w₁ (Related S m 0 k q) → Is w (Repetition m a k alone (WordsRelate w₁)) → Is w (Related S m a k p)
+  pub related-oneOrMore : {w w₁ : List ℕ} → a < 2 ^ 64 → Is w₁ (Related S m 0 k q)
+      → Is w (Repetition m a k alone (WordsRelate w₁)) → Is w (Related S m a k p)
   related-oneOrMore {w} {w₁} ha is₁ closed =
-      is-map (is-map closed (λ i j. (repeats-map m a k alone (is₁ .sound) i j, repeats-map m a k alone (is₁ .complete) i j))) (λ i j. same i j (ℕ-discrete a 0))
+      is-map (is-map closed
+      (λ i j. (repeats-map m a k alone (is₁ .sound) i j, repeats-map m a k alone (is₁ .complete) i j)))
+      (λ i j. same i j (ℕ-discrete a 0))
     where
       same : (i j : ℕ) → Dec (a ≡ 0) → Repetition m a k alone (Related S m 0 k q) i j ↔ Related S m a k p i j
       same i j (yes z) = without z i j

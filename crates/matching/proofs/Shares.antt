@@ -51,11 +51,15 @@ module _ (e : ℕ) where
   row-in a x = let z : suc e + x - suc e ≡ x = omega arith in rw (lt-ltb e (suc e + x) (omega arith), z)
 
   pub attributes-both : (a b : ℕ) → attributesIn e (bitAnd a b) ≡ attributesIn e a ∩ hasRow b
-  attributes-both a b = fun-ext (λ r. ap (λ (x : Bool). ltb e r && x) (bit-and a b (numberOf r)) ∙ sym (and-assoc (ltb e r) (bit a (numberOf r)) (bit b (numberOf r))))
+  attributes-both a b =
+      fun-ext (λ r. ap (λ (x : Bool). ltb e r && x) (bit-and a b (numberOf r))
+      ∙ sym (and-assoc (ltb e r) (bit a (numberOf r)) (bit b (numberOf r))))
 
-  pub attributes-without : (a b : ℕ) → a < 2 ^ 64 → b < 2 ^ 64 → attributesIn e (bitAnd a (2 ^ 64 - 1 - b)) ≡ attributesIn e a ∖ hasRow b
+  pub attributes-without : (a b : ℕ) → a < 2 ^ 64 → b < 2 ^ 64
+      → attributesIn e (bitAnd a (2 ^ 64 - 1 - b)) ≡ attributesIn e a ∖ hasRow b
   attributes-without a b ha hb =
-      fun-ext (λ r. ap (λ (x : Bool). ltb e r && x) (bit-without 64 a b (numberOf r) ha hb) ∙ sym (and-assoc (ltb e r) (bit a (numberOf r)) (not (bit b (numberOf r)))))
+      fun-ext (λ r. ap (λ (x : Bool). ltb e r && x) (bit-without 64 a b (numberOf r) ha hb)
+      ∙ sym (and-assoc (ltb e r) (bit a (numberOf r)) (not (bit b (numberOf r)))))
 
   pub no-attributes : attributesIn e 0 ≡ noAttributes
   no-attributes = fun-ext (λ r. ap (λ (x : Bool). ltb e r && x) (bit-none (numberOf r)) ∙ and-false (ltb e r))
@@ -65,23 +69,29 @@ module _ (e : ℕ) where
 
 -- ---- the rows that the tables cover
 
-module _ {s : List ℕ} (S : Setting s) {marks named taken single : List ℕ} {p : ℕ} (covered : Covered S marks named taken single p) where
+module _ {s : List ℕ} (S : Setting s) {marks named taken single : List ℕ}
+    {p : ℕ} (covered : Covered S marks named taken single p) where
   pub row-covered : RowMarked (tablesIn S) (S .element) (S .attributes) (S .it) (S .items) marks named taken single p
   row-covered = covered .rows p itself
 
   pub operand-covered : {q : ℕ} {x : Pattern} → patternOf s p ≡ x → Operand q x → Covered S marks named taken single q
-  operand-covered {q} e o = record { rows = λ r i. covered .rows r (operand-occurs (S .passes .rows) (subst (Operand q) (sym e) o) i) }
+  operand-covered {q} e o =
+      record { rows = λ r i. covered .rows r (operand-occurs (S .passes .rows) (subst (Operand q) (sym e) o) i) }
 
 -- ---- what is asked of a and k holds of their parts
 
 module _ {s : List ℕ} (S : Setting s) {a k : ℕ} (asked : Asked S a k) where
-  pub asked-part : {b l : ℕ} → ((x : ℕ) → bit b x ≡ true → bit a x ≡ true) → ((x : ℕ) → bit l x ≡ true → bit k x ≡ true) → Asked S b l
+  pub asked-part : {b l : ℕ} → ((x : ℕ) → bit b x ≡ true → bit a x ≡ true)
+      → ((x : ℕ) → bit l x ≡ true → bit k x ≡ true) → Asked S b l
   asked-part {b} {l} f g = record {
     of-attributes = λ x h. asked .of-attributes x (f x h);
     of-items = λ x h. asked .of-items x (g x h);
-    distinct = distinct-part (lookups (tablesIn S)) (attributesIn (S .element) a) (attributesIn (S .element) b) wider (asked .distinct);
+    distinct = distinct-part (lookups (tablesIn S)) (attributesIn (S .element) a)
+        (attributesIn (S .element) b) wider (asked .distinct);
     clean = clean-part (lookups (tablesIn S)) (S .it) (bit k) (bit l) g (asked .clean);
   }
     where
       wider : (r : ℕ) → attributesIn (S .element) b r ≡ true → attributesIn (S .element) a r ≡ true
-      wider r h = both-and (and-left (ltb (S .element) r) (hasRow (S .element) b r) h) (f (numberOf (S .element) r) (in-row (S .element) b r h .1))
+      wider r h =
+          both-and (and-left (ltb (S .element) r) (hasRow (S .element) b r) h)
+          (f (numberOf (S .element) r) (in-row (S .element) b r h .1))

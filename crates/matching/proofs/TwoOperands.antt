@@ -25,21 +25,29 @@ use Rattle.matching_rules.specs.Spans.{Span}
 use Rattle.matching_rules.proofs.Spans.{span-choice}
 use Rattle.matching_marks.specs.Marks.{attributesIn}
 use Rattle.matching.specs.Setting.{Setting, tablesIn, Asked, Related, Covered}
-use Rattle.matching.proofs.Shares.{bits-both, bits-without, numberOf, hasRow, in-row, attributes-both, attributes-without, row-covered}
+use Rattle.matching.proofs.Shares.{bits-both, bits-without, numberOf, hasRow, in-row}
+use Rattle.matching.proofs.Shares.{attributes-both, attributes-without, row-covered}
 
 -- words that hold the relations that a relation is made of
 module _ {w w₁ w₂ : List ℕ} {R R₁ R₂ : Relation} (is₁ : Is w₁ R₁) (is₂ : Is w₂ R₂) where
   is-or : Is w (Or (WordsRelate w₁) (WordsRelate w₂)) → ((i j : ℕ) → Or R₁ R₂ i j ↔ R i j) → Is w R
   is-or is same =
-      is-map (is-map is (λ i j. (⊎-map (is₁ .sound i j) (is₂ .sound i j), ⊎-map (is₁ .complete i j) (is₂ .complete i j)))) same
+      is-map (is-map is
+      (λ i j. (⊎-map (is₁ .sound i j) (is₂ .sound i j), ⊎-map (is₁ .complete i j) (is₂ .complete i j)))) same
 
   is-and : Is w (And (WordsRelate w₁) (WordsRelate w₂)) → ((i j : ℕ) → And R₁ R₂ i j ↔ R i j) → Is w R
   is-and is same =
-      is-map (is-map is (λ i j. (λ b. (is₁ .sound i j (b .0), is₂ .sound i j (b .1)), λ b. (is₁ .complete i j (b .0), is₂ .complete i j (b .1))))) same
+      is-map (is-map is (λ i j. (
+        λ b. (is₁ .sound i j (b .0), is₂ .sound i j (b .1)),
+        λ b. (is₁ .complete i j (b .0), is₂ .complete i j (b .1)),
+      ))) same
 
   is-then : Is w (Then (WordsRelate w₁) (WordsRelate w₂)) → ((i j : ℕ) → Then R₁ R₂ i j ↔ R i j) → Is w R
   is-then is same =
-      is-map (is-map is (λ i j. (λ b. (b .0, is₁ .sound i (b .0) (b .1), is₂ .sound (b .0) j (b .2)), λ b. (b .0, is₁ .complete i (b .0) (b .1), is₂ .complete (b .0) j (b .2))))) same
+      is-map (is-map is (λ i j. (
+        λ b. (b .0, is₁ .sound i (b .0) (b .1), is₂ .sound (b .0) j (b .2)),
+        λ b. (b .0, is₁ .complete i (b .0) (b .1), is₂ .complete (b .0) j (b .2)),
+      ))) same
 
 module _ {s : List ℕ} (S : Setting s) (m : ℕ) {a k : ℕ} (asked : Asked S a k) (p p₁ p₂ : ℕ) where
   abbrev L : Lookups
@@ -54,7 +62,8 @@ module _ {s : List ℕ} (S : Setting s) (m : ℕ) {a k : ℕ} (asked : Asked S a
   R : Restricted L
   R = restricted (tablesIn S) (S .passes)
 
-  pub related-choice : {w w₁ w₂ : List ℕ} → patternOf s p ≡ choice p₁ p₂ → Is w₁ (Related S m a k p₁) → Is w₂ (Related S m a k p₂) → Is w (Or (WordsRelate w₁) (WordsRelate w₂)) → Is w (Related S m a k p)
+  pub related-choice : {w w₁ w₂ : List ℕ} → patternOf s p ≡ choice p₁ p₂ → Is w₁ (Related S m a k p₁)
+      → Is w₂ (Related S m a k p₂) → Is w (Or (WordsRelate w₁) (WordsRelate w₂)) → Is w (Related S m a k p)
   related-choice e is₁ is₂ is = is-or is₁ is₂ is (λ i j. (to i j, from i j))
     where
       to : (i j : ℕ) → Or (Related S m a k p₁) (Related S m a k p₂) i j → Related S m a k p i j
@@ -78,7 +87,8 @@ module _ {s : List ℕ} (S : Setting s) (m : ℕ) {a k : ℕ} (asked : Asked S a
     names : Tells P A (λ x. Reaches L (namesAttribute L x) (L .pattern p₁))
     names r h =
         let z = in-row (S .element) a r h in
-        subst (λ (x : ℕ). (bit n (numberOf (S .element) r) ≡ true) ↔ Reaches L (namesAttribute L x) (L .pattern p₁)) (z .0)
+        subst (λ (x : ℕ). (bit n (numberOf (S .element) r) ≡ true) ↔ Reaches L (namesAttribute L x) (L .pattern p₁))
+        (z .0)
         (row-covered S covered .names (numberOf (S .element) r) (asked .of-attributes (numberOf (S .element) r) (z .1)))
 
     takers : Tells (bit t) (bit k) (λ x. Reaches L (takes L (S .it x)) (L .pattern p₁))
@@ -86,23 +96,28 @@ module _ {s : List ℕ} (S : Setting s) (m : ℕ) {a k : ℕ} (asked : Asked S a
 
     module _ (ha : a < 2 ^ 64) (hn : n < 2 ^ 64) where
       -- the relations of the operands as spans
-      first : (K : ℕ → Bool) (l i j : ℕ) → bit l ≡ K → Related S m (bitAnd a n) l p₁ i j ↔ ((j < m) × Span L N (A ∩ P) (S .it) K p₁ i j)
+      first : (K : ℕ → Bool) (l i j : ℕ) → bit l ≡ K
+          → Related S m (bitAnd a n) l p₁ i j ↔ ((j < m) × Span L N (A ∩ P) (S .it) K p₁ i j)
       first K l i j e = rw (attributes-both (S .element) a n, e) ((λ r. r), λ r. r)
 
-      second : (K : ℕ → Bool) (l i j : ℕ) → bit l ≡ K → Related S m (bitAnd a (2 ^ 64 - 1 - n)) l p₂ i j ↔ ((j < m) × Span L N (A ∖ P) (S .it) K p₂ i j)
+      second : (K : ℕ → Bool) (l i j : ℕ) → bit l ≡ K
+          → Related S m (bitAnd a (2 ^ 64 - 1 - n)) l p₂ i j ↔ ((j < m) × Span L N (A ∖ P) (S .it) K p₂ i j)
       second K l i j e = rw (attributes-without (S .element) a n ha hn, e) ((λ r. r), λ r. r)
 
-      pub related-group : {w w₁ w₂ : List ℕ} → patternOf s p ≡ group p₁ p₂ → Is w₁ (Related S m (bitAnd a n) k p₁) → Is w₂ (Related S m (bitAnd a (2 ^ 64 - 1 - n)) k p₂)
+      pub related-group : {w w₁ w₂ : List ℕ} → patternOf s p ≡ group p₁ p₂
+          → Is w₁ (Related S m (bitAnd a n) k p₁) → Is w₂ (Related S m (bitAnd a (2 ^ 64 - 1 - n)) k p₂)
           → Is w (Then (WordsRelate w₁) (WordsRelate w₂)) → Is w (Related S m a k p)
       related-group e is₁ is₂ is = is-then is₁ is₂ is (λ i j. (to i j, from i j))
         where
-          to : (i j : ℕ) → Then (Related S m (bitAnd a n) k p₁) (Related S m (bitAnd a (2 ^ 64 - 1 - n)) k p₂) i j → Related S m a k p i j
+          to : (i j : ℕ) → Then (Related S m (bitAnd a n) k p₁) (Related S m (bitAnd a (2 ^ 64 - 1 - n)) k p₂) i j
+              → Related S m a k p i j
           to i j r =
               let x = first (bit k) k i (r .0) refl .0 (r .1) in
               let y = second (bit k) k (r .0) j refl .0 (r .2) in
               (y .0, span-group L N R A (S .it) (bit k) p p₁ p₂ P names i j e .1 (r .0, x .1, y .1))
 
-          from : (i j : ℕ) → Related S m a k p i j → Then (Related S m (bitAnd a n) k p₁) (Related S m (bitAnd a (2 ^ 64 - 1 - n)) k p₂) i j
+          from : (i j : ℕ) → Related S m a k p i j
+              → Then (Related S m (bitAnd a n) k p₁) (Related S m (bitAnd a (2 ^ 64 - 1 - n)) k p₂) i j
           from i j r =
               let x = span-group L N R A (S .it) (bit k) p p₁ p₂ P names i j e .0 (r .1) in
               let u = r .0 in
@@ -110,7 +125,8 @@ module _ {s : List ℕ} (S : Setting s) (m : ℕ) {a k : ℕ} (asked : Asked S a
               (x .0, first (bit k) k i (x .0) refl .1 (omega arith, x .1), second (bit k) k (x .0) j refl .1 (u, x .2))
 
       pub related-interleave : {w w₁ w₂ : List ℕ} → k < 2 ^ 64 → t < 2 ^ 64 → patternOf s p ≡ interleave p₁ p₂
-          → Is w₁ (Related S m (bitAnd a n) (bitAnd k t) p₁) → Is w₂ (Related S m (bitAnd a (2 ^ 64 - 1 - n)) (bitAnd k (2 ^ 64 - 1 - t)) p₂)
+          → Is w₁ (Related S m (bitAnd a n) (bitAnd k t) p₁)
+          → Is w₂ (Related S m (bitAnd a (2 ^ 64 - 1 - n)) (bitAnd k (2 ^ 64 - 1 - t)) p₂)
           → Is w (And (WordsRelate w₁) (WordsRelate w₂)) → Is w (Related S m a k p)
       related-interleave hk ht e is₁ is₂ is = is-and is₁ is₂ is (λ i j. (to i j, from i j))
         where
@@ -120,13 +136,21 @@ module _ {s : List ℕ} (S : Setting s) (m : ℕ) {a k : ℕ} (asked : Asked S a
           K₂ : bit (bitAnd k (2 ^ 64 - 1 - t)) ≡ bit k ∖ bit t
           K₂ = bits-without k t hk ht
 
-          to : (i j : ℕ) → And (Related S m (bitAnd a n) (bitAnd k t) p₁) (Related S m (bitAnd a (2 ^ 64 - 1 - n)) (bitAnd k (2 ^ 64 - 1 - t)) p₂) i j → Related S m a k p i j
+          to : (i j : ℕ) → And (Related S m (bitAnd a n) (bitAnd k t) p₁)
+              (Related S m (bitAnd a (2 ^ 64 - 1 - n)) (bitAnd k (2 ^ 64 - 1 - t)) p₂) i j → Related S m a k p i j
           to i j r =
               let x = first (bit k ∩ bit t) (bitAnd k t) i j K₁ .0 (r .0) in
-              let y = second (bit k ∖ bit t) (bitAnd k (2 ^ 64 - 1 - t)) i j K₂ .0 (r .1) in
-              (x .0, span-interleave L N R A (S .it) (bit k) p p₁ p₂ P names (bit t) takers (asked .clean) i j e .1 (x .1, y .1))
+              let y = second (bit k ∖ bit t) (bitAnd k (2 ^ 64 - 1 - t)) i j K₂ .0 (r .1) in (
+                x .0,
+                span-interleave L N R A (S .it) (bit k) p p₁ p₂ P names
+                    (bit t) takers (asked .clean) i j e .1 (x .1, y .1),
+              )
 
-          from : (i j : ℕ) → Related S m a k p i j → And (Related S m (bitAnd a n) (bitAnd k t) p₁) (Related S m (bitAnd a (2 ^ 64 - 1 - n)) (bitAnd k (2 ^ 64 - 1 - t)) p₂) i j
+          from : (i j : ℕ) → Related S m a k p i j → And (Related S m (bitAnd a n) (bitAnd k t) p₁)
+              (Related S m (bitAnd a (2 ^ 64 - 1 - n)) (bitAnd k (2 ^ 64 - 1 - t)) p₂) i j
           from i j r =
-              let x = span-interleave L N R A (S .it) (bit k) p p₁ p₂ P names (bit t) takers (asked .clean) i j e .0 (r .1) in
-              (first (bit k ∩ bit t) (bitAnd k t) i j K₁ .1 (r .0, x .0), second (bit k ∖ bit t) (bitAnd k (2 ^ 64 - 1 - t)) i j K₂ .1 (r .0, x .1))
+              let x = span-interleave L N R A (S .it) (bit k) p p₁ p₂ P names
+              (bit t) takers (asked .clean) i j e .0 (r .1) in (
+                first (bit k ∩ bit t) (bitAnd k t) i j K₁ .1 (r .0, x .0),
+                second (bit k ∖ bit t) (bitAnd k (2 ^ 64 - 1 - t)) i j K₂ .1 (r .0, x .1),
+              )

@@ -21,7 +21,8 @@ normal-lead : (s : List ℕ) → getD (normalizeWhiteSpace s) 0 0 ≡ leadOf s
 normal-lead [] = refl
 normal-lead (c ∷ s) = go (normal-lead s) (space c) refl
   where
-    go : getD (normalizeWhiteSpace s) 0 0 ≡ leadOf s → (b : Bool) → space c ≡ b → getD (normalizeWhiteSpace (c ∷ s)) 0 0 ≡ leadOf (c ∷ s)
+    go : getD (normalizeWhiteSpace s) 0 0 ≡ leadOf s → (b : Bool)
+        → space c ≡ b → getD (normalizeWhiteSpace (c ∷ s)) 0 0 ≡ leadOf (c ∷ s)
     go ih true e = rw e ih
     go ih false e = rw e (ap (λ (l : List ℕ). getD l 0 0) (kept c s e))
 
@@ -30,13 +31,17 @@ same-lead zero a b e = ap leadOf e
 same-lead (suc d) a b e = sym (normal-lead a) ∙ ap (λ (l : List ℕ). getD l 0 0) e ∙ normal-lead b
 
 -- another lead
-pub not-equal : (d : ℕ) (a b : List ℕ) {x y : ℕ} → x ≡ leadOf a → y ≡ leadOf b → x ≢ y → (_≡_ {A = ℕ} 0 1) ↔ datatypeEqual d a b
+pub not-equal : (d : ℕ) (a b : List ℕ) {x y : ℕ} → x ≡ leadOf a
+    → y ≡ leadOf b → x ≢ y → (_≡_ {A = ℕ} 0 1) ↔ datatypeEqual d a b
 not-equal d a b f g n = (λ e. absurd (not-one e), λ e. absurd (n (f ∙ same-lead d a b e ∙ sym g)))
 
 pub lead-at : (s : List ℕ) {at : ℕ} → Skips s 0 at → getD s at 0 ≡ leadOf s
-lead-at s {at} k = let same : at + 0 ≡ at = omega arith in sym (getD-drop at s 0 0 ∙ ap (λ (i : ℕ). getD s i 0) same) ∙ ap (λ (l : List ℕ). getD l 0 0) (k .trimmed)
+lead-at s {at} k =
+    let same : at + 0 ≡ at = omega arith in
+    sym (getD-drop at s 0 0 ∙ ap (λ (i : ℕ). getD s i 0) same) ∙ ap (λ (l : List ℕ). getD l 0 0) (k .trimmed)
 
-pub leads-more : (T : StringTable) (leads : List ℕ) (k : ℕ) {v : ℕ} {text : List ℕ} → k < length leads → v ≡ leadOf text → text ≡ textOf T k → LeadsTo T leads k → LeadsTo T (set leads k v) (k + 1)
+pub leads-more : (T : StringTable) (leads : List ℕ) (k : ℕ) {v : ℕ} {text : List ℕ} → k < length leads
+    → v ≡ leadOf text → text ≡ textOf T k → LeadsTo T leads k → LeadsTo T (set leads k v) (k + 1)
 leads-more T leads k {v} {text} i e f r =
     below-more (λ (j : ℕ). getD (set leads k v) j 0 ≡ leadOf (textOf T j)) k
     (λ j m. getD-set-other leads k j v 0 (λ z. omega arith) ∙ r j m)

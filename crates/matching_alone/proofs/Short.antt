@@ -66,13 +66,17 @@ module _ (L : Lookups) (NotMatch : List ℕ → ℕ → Type 0) where
   Null p = Match L NotMatch noAttributes [] (L .pattern p)
 
   -- a match without attributes of two patterns
-  pair-apart : {a₁ a₂ : Attributes} {m₁ m₂ : List Item} {x₁ x₂ : Pattern} → noAttributes ≡ a₁ ∪ a₂ → Match L NotMatch a₁ m₁ x₁ → Match L NotMatch a₂ m₂ x₂ → Match L NotMatch noAttributes m₁ x₁ × Match L NotMatch noAttributes m₂ x₂
-  pair-apart {a₁} {a₂} e d₁ d₂ = (cast L NotMatch (none-left a₁ a₂ (sym e)) refl d₁, cast L NotMatch (none-right a₁ a₂ (sym e)) refl d₂)
+  pair-apart : {a₁ a₂ : Attributes} {m₁ m₂ : List Item} {x₁ x₂ : Pattern}
+      → noAttributes ≡ a₁ ∪ a₂ → Match L NotMatch a₁ m₁ x₁ → Match L NotMatch a₂ m₂ x₂
+      → Match L NotMatch noAttributes m₁ x₁ × Match L NotMatch noAttributes m₂ x₂
+  pair-apart {a₁} {a₂} e d₁ d₂ =
+      (cast L NotMatch (none-left a₁ a₂ (sym e)) refl d₁, cast L NotMatch (none-right a₁ a₂ (sym e)) refl d₂)
 
   abbrev pub Either : ℕ → ℕ → List ℕ → Type 0
   Either p₁ p₂ s = (Lone p₁ s × Null p₂) ⊎ (Null p₁ × Lone p₂ s)
 
-  shared : (p₁ p₂ : ℕ) {s : List ℕ} {m₁ m₂ : List Item} → Shared (string s) m₁ m₂ → Match L NotMatch noAttributes m₁ (L .pattern p₁) → Match L NotMatch noAttributes m₂ (L .pattern p₂) → Either p₁ p₂ s
+  shared : (p₁ p₂ : ℕ) {s : List ℕ} {m₁ m₂ : List Item} → Shared (string s) m₁ m₂ → Match L NotMatch noAttributes m₁
+      (L .pattern p₁) → Match L NotMatch noAttributes m₂ (L .pattern p₂) → Either p₁ p₂ s
   shared p₁ p₂ to-first d₁ d₂ = inl (d₁, d₂)
   shared p₁ p₂ to-second d₁ d₂ = inr (d₁, d₂)
 
@@ -122,18 +126,23 @@ module _ (L : Lookups) (NotMatch : List ℕ → ℕ → Type 0) where
         from (inr d) = rw e (interleave (d .0) (d .1) (interleaved (shared-shuffle to-second)))
 
   -- steps of oneOrMore without items can be left out
-  null-more : {a : Attributes} {m : List Item} {q : ℕ} → Match L NotMatch a m (pattern.oneOrMore q) → a ≡ noAttributes → m ≡ [] → Null q
+  null-more : {a : Attributes} {m : List Item} {q : ℕ}
+      → Match L NotMatch a m (pattern.oneOrMore q) → a ≡ noAttributes → m ≡ [] → Null q
   null-more (oneOrMore-1 d) e f = cast L NotMatch e f d
-  null-more (oneOrMore-2 {a₁ = a₁} {a₂ = a₂} {m₁ = m₁} {m₂ = m₂} d₁ d₂ z) e f = cast L NotMatch (none-left a₁ a₂ e) (no-items m₁ m₂ (sym f) .0) d₁
+  null-more (oneOrMore-2 {a₁ = a₁} {a₂ = a₂} {m₁ = m₁} {m₂ = m₂} d₁ d₂ z) e f =
+      cast L NotMatch (none-left a₁ a₂ e) (no-items m₁ m₂ (sym f) .0) d₁
 
-  lone-step : {s : List ℕ} {q : ℕ} {m₁ m₂ : List Item} → Shared (string s) m₁ m₂ → Match L NotMatch noAttributes m₁ (L .pattern q) → (m₂ ≡ string s ∷ [] → Lone q s) → Lone q s
+  lone-step : {s : List ℕ} {q : ℕ} {m₁ m₂ : List Item} → Shared (string s) m₁ m₂
+      → Match L NotMatch noAttributes m₁ (L .pattern q) → (m₂ ≡ string s ∷ [] → Lone q s) → Lone q s
   lone-step to-first d f = d
   lone-step to-second d f = f refl
 
-  lone-more : {a : Attributes} {m : List Item} {q : ℕ} {s : List ℕ} → Match L NotMatch a m (pattern.oneOrMore q) → a ≡ noAttributes → m ≡ string s ∷ [] → Lone q s
+  lone-more : {a : Attributes} {m : List Item} {q : ℕ} {s : List ℕ}
+      → Match L NotMatch a m (pattern.oneOrMore q) → a ≡ noAttributes → m ≡ string s ∷ [] → Lone q s
   lone-more (oneOrMore-1 d) e f = cast L NotMatch e f d
   lone-more {s = s} (oneOrMore-2 {a₁ = a₁} {a₂ = a₂} {m₁ = m₁} {m₂ = m₂} d₁ d₂ z) e f =
-      lone-step (share (string s) m₁ m₂ (sym f)) (cast L NotMatch (none-left a₁ a₂ e) refl d₁) (λ g. lone-more d₂ (none-right a₁ a₂ e) g)
+      lone-step (share (string s) m₁ m₂ (sym f)) (cast L NotMatch (none-left a₁ a₂ e) refl d₁)
+      (λ g. lone-more d₂ (none-right a₁ a₂ e) g)
 
   module _ {p : ℕ} where
     pub null-oneOrMore : {q : ℕ} → L .pattern p ≡ pattern.oneOrMore q → Null p ↔ Null q
@@ -143,7 +152,14 @@ module _ (L : Lookups) (NotMatch : List ℕ → ℕ → Type 0) where
     lone-oneOrMore e = (λ d. lone-more (rw e at d) refl refl, λ d. rw e (oneOrMore-1 d))
 
     pub null-choice : {p₁ p₂ : ℕ} → L .pattern p ≡ pattern.choice p₁ p₂ → Null p ↔ (Null p₁ ⊎ Null p₂)
-    null-choice {p₁} {p₂} e = (λ d. stepwise L NotMatch (pattern.choice p₁ p₂) .0 (rw e at d), λ d. rw e (stepwise L NotMatch (pattern.choice p₁ p₂) .1 d))
+    null-choice {p₁} {p₂} e = (
+      λ d. stepwise L NotMatch (pattern.choice p₁ p₂) .0 (rw e at d),
+      λ d. rw e (stepwise L NotMatch (pattern.choice p₁ p₂) .1 d),
+    )
 
-    pub lone-choice : {p₁ p₂ : ℕ} {s : List ℕ} → L .pattern p ≡ pattern.choice p₁ p₂ → Lone p s ↔ (Lone p₁ s ⊎ Lone p₂ s)
-    lone-choice {p₁} {p₂} e = (λ d. stepwise L NotMatch (pattern.choice p₁ p₂) .0 (rw e at d), λ d. rw e (stepwise L NotMatch (pattern.choice p₁ p₂) .1 d))
+    pub lone-choice : {p₁ p₂ : ℕ} {s : List ℕ}
+        → L .pattern p ≡ pattern.choice p₁ p₂ → Lone p s ↔ (Lone p₁ s ⊎ Lone p₂ s)
+    lone-choice {p₁} {p₂} e = (
+      λ d. stepwise L NotMatch (pattern.choice p₁ p₂) .0 (rw e at d),
+      λ d. rw e (stepwise L NotMatch (pattern.choice p₁ p₂) .1 d),
+    )

@@ -39,12 +39,15 @@ count-grows test m (suc d) =
 
 value-told : (strings k a b c : ℕ) → k ≡ attribute → fieldsRight strings k a b c ≡ true → c < strings
 unfolding fieldsRight
-value-told strings k a b c e f = ltb-true c strings (and-right (ltb a strings && (ltb 0 b && ltb b strings)) (ltb c strings) (rw e at f))
+value-told strings k a b c e f =
+    ltb-true c strings (and-right (ltb a strings && (ltb 0 b && ltb b strings)) (ltb c strings) (rw e at f))
 
 module _ {strings : ℕ} {t : List ℕ} (right : NodesRight strings t) (e : ℕ) (h : e < nodesOf t) where
   -- the value of an attribute is a string of the table
   pub value-string : (r : ℕ) → isAttribute t e r ≡ true → cOf t r < strings
-  value-string r a = value-told strings (kindOf t r) (aOf t r) (bOf t r) (cOf t r) (attribute-kind t e r a) (go (fieldsRight strings (kindOf t r) (aOf t r) (bOf t r) (cOf t r)) refl)
+  value-string r a =
+      value-told strings (kindOf t r) (aOf t r) (bOf t r) (cOf t r) (attribute-kind t e r a)
+      (go (fieldsRight strings (kindOf t r) (aOf t r) (bOf t r) (cOf t r)) refl)
     where
       go : (b : Bool) → fieldsRight strings (kindOf t r) (aOf t r) (bOf t r) (cOf t r) ≡ b → b ≡ true
       go true q = refl
@@ -78,13 +81,19 @@ module _ {strings : ℕ} {t : List ℕ} (right : NodesRight strings t) (e : ℕ)
         at x (yes l) = rw (lt-ltb x n l) (sym (c .attributes x l))
         at x (no f) =
             let l = not-less f in
-            rw (le-ltb x n l) (sym (is-false (isAttribute t e (attributeRow e x)) (λ i. true≢false (sym (attributes-first right e (attributeRow e n) (attributeRow e x) (omega arith) (omega arith) i) ∙ ended))))
+            rw (le-ltb x n l)
+            (sym (is-false (isAttribute t e (attributeRow e x)) (λ i. true≢false (sym (attributes-first right e
+            (attributeRow e n) (attributeRow e x) (omega arith) (omega arith) i) ∙ ended))))
 
         go : (r : ℕ) → Dec (e < r) → attributesIn e a r ≡ isAttribute t e r
         go r (yes l) =
             let z : attributeRow e (r - suc e) ≡ r = omega arith in
             rw (lt-ltb e r l) (w .members (r - suc e) ∙ at (r - suc e) (decLt (r - suc e) n) ∙ ap (isAttribute t e) z)
-        go r (no f) = rw (le-ltb e r (not-less f)) (sym (is-false (isAttribute t e r) (λ i. f (attribute-later right e r h i .0))))
+        go r (no f) =
+            rw (le-ltb e r (not-less f))
+            (sym (is-false (isAttribute t e r) (λ i. f (attribute-later right e r h i .0))))
 
-    pub attributes-distinct : (a : ℕ) → attributesIn e a ≡ isAttribute t e → (x y : ℕ) → attributesIn e a x ≡ true → attributesIn e a y ≡ true → SameName t x y → x ≡ y
-    attributes-distinct a s x y i j = attributes-differ right e x y (sym (ap (λ (A : ℕ → Bool). A x) s) ∙ i) (sym (ap (λ (A : ℕ → Bool). A y) s) ∙ j)
+    pub attributes-distinct : (a : ℕ) → attributesIn e a ≡ isAttribute t e → (x y : ℕ)
+        → attributesIn e a x ≡ true → attributesIn e a y ≡ true → SameName t x y → x ≡ y
+    attributes-distinct a s x y i j =
+        attributes-differ right e x y (sym (ap (λ (A : ℕ → Bool). A x) s) ∙ i) (sym (ap (λ (A : ℕ → Bool). A y) s) ∙ j)

@@ -49,7 +49,8 @@ root-element right = eq-eqb _ _ (rooted right .root-kind (some-node right))
 ref-row : {strings : ℕ} {s : List ℕ} → RowsRight strings s → (p : ℕ) → kindOf s p ≡ kind.ref → aOf s p < rowsOf s
 unfolding shapeOf
 ref-row {strings} {s} right p e =
-    let d = definition-kind s (aOf s p) (rw e at (both-fields strings s right p (has-kind right e (λ z. omega arith)) .0)) in
+    let d = definition-kind s (aOf s p)
+    (rw e at (both-fields strings s right p (has-kind right e (λ z. omega arith)) .0)) in
     has-kind right d (λ z. omega arith)
 
 module _ (L : Lookups) where
@@ -57,7 +58,8 @@ module _ (L : Lookups) where
   sides : {p₁ p₂ : ℕ} → Starts L (choice p₁ p₂) → Starts L (L .pattern p₁) × Starts L (L .pattern p₂)
   sides (starts-choice k₁ k₂) = (k₁, k₂)
 
-  neither : {a : Attributes} {m : List Item} {p₁ p₂ : ℕ} → ¬ Matches L a m (L .pattern p₁) → ¬ Matches L a m (L .pattern p₂) → ¬ Matches L a m (choice p₁ p₂)
+  neither : {a : Attributes} {m : List Item} {p₁ p₂ : ℕ} → ¬ Matches L a m (L .pattern p₁)
+      → ¬ Matches L a m (L .pattern p₂) → ¬ Matches L a m (choice p₁ p₂)
   neither f g (choice-1 m) = f m
   neither f g (choice-2 m) = g m
 
@@ -66,7 +68,8 @@ module _ (L : Lookups) where
 
 module _ (s pairs : List ℕ) (p : ℕ) where
   -- a ref: the entry of the root and the definition
-  pub tells-ref : {v : ℕ} (r : Bool) → kindOf s p ≡ kind.ref → v ≡ getD pairs (aOf s p) 0 → r ≡ eqb v 1 → TellsRoot s pairs p r
+  pub tells-ref : {v : ℕ} (r : Bool) → kindOf s p ≡ kind.ref
+      → v ≡ getD pairs (aOf s p) 0 → r ≡ eqb v 1 → TellsRoot s pairs p r
   unfolding patternBy
   tells-ref {v} r e f g T t pass right starts = rw (ap (λ (k : ℕ). patternBy k (aOf s p) (bOf s p)) e) (go r g)
     where
@@ -74,12 +77,21 @@ module _ (s pairs : List ℕ) (p : ℕ) where
       at = f ∙ ap (λ (i : ℕ). getD pairs i 0) (sym (zero-add (aOf s p)))
 
       entry : (v ≡ 1) → Matches (lookups (tablesOf T s t)) noAttributes (element 0 ∷ []) (ref (aOf s p))
-      entry z = against (lookups (tablesOf T s t)) (NotMatchBy (lookups (tablesOf T s t)) (rowsOf s)) 0 (aOf s p) .1 (right .entries 0 (aOf s p) (omega arith) (some-node (pass .nodes)) (ref-row (pass .schema .rows) p e) .0 (sym at ∙ z) .1)
+      entry z =
+          against (lookups (tablesOf T s t)) (NotMatchBy (lookups (tablesOf T s t)) (rowsOf s))
+          0 (aOf s p) .1 (right .entries 0 (aOf s p) (omega arith)
+          (some-node (pass .nodes)) (ref-row (pass .schema .rows) p e) .0 (sym at ∙ z) .1)
 
       back : Matches (lookups (tablesOf T s t)) noAttributes (element 0 ∷ []) (ref (aOf s p)) → v ≡ 1
-      back m = at ∙ right .entries 0 (aOf s p) (omega arith) (some-node (pass .nodes)) (ref-row (pass .schema .rows) p e) .1 (root-element (pass .nodes), against (lookups (tablesOf T s t)) (NotMatchBy (lookups (tablesOf T s t)) (rowsOf s)) 0 (aOf s p) .0 m)
+      back m =
+          at ∙ right .entries 0 (aOf s p) (omega arith)
+          (some-node (pass .nodes)) (ref-row (pass .schema .rows) p e) .1 (
+            root-element (pass .nodes),
+            against (lookups (tablesOf T s t)) (NotMatchBy (lookups (tablesOf T s t)) (rowsOf s)) 0 (aOf s p) .0 m,
+          )
 
-      go : (r : Bool) → r ≡ eqb v 1 → Decides (Matches (lookups (tablesOf T s t)) noAttributes (element 0 ∷ []) (ref (aOf s p))) r
+      go : (r : Bool) → r ≡ eqb v 1
+          → Decides (Matches (lookups (tablesOf T s t)) noAttributes (element 0 ∷ []) (ref (aOf s p))) r
       go true g = entry (eqb-true v 1 (sym g))
       go false g = λ m. eqb-false v 1 (sym g) (back m)
 
@@ -93,7 +105,8 @@ module _ (s pairs : List ℕ) (p : ℕ) where
         let k = sides (lookups (tablesOf T s t)) (subst (Starts (lookups (tablesOf T s t))) is-choice starts) in
         rw is-choice (choice-1 (rw g at (h T t pass right (k .0))))
 
-    pub tells-second : (r₁ r : Bool) → r₁ ≡ false → TellsRoot s pairs p₁ r₁ → TellsRoot s pairs p₂ r → TellsRoot s pairs p r
+    pub tells-second : (r₁ r : Bool) → r₁ ≡ false → TellsRoot s pairs p₁ r₁
+        → TellsRoot s pairs p₂ r → TellsRoot s pairs p r
     tells-second r₁ r g h₁ h₂ T t pass right starts = rw is-choice (go r (h₂ T t pass right (k .1)))
       where
         k : Starts (lookups (tablesOf T s t)) (patternOf s p₁) × Starts (lookups (tablesOf T s t)) (patternOf s p₂)
@@ -102,14 +115,17 @@ module _ (s pairs : List ℕ) (p : ℕ) where
         no-first : Matches (lookups (tablesOf T s t)) noAttributes (element 0 ∷ []) (patternOf s p₁) → ⊥
         no-first = rw g at (h₁ T t pass right (k .0))
 
-        go : (r : Bool) → Decides (Matches (lookups (tablesOf T s t)) noAttributes (element 0 ∷ []) (patternOf s p₂)) r → Decides (Matches (lookups (tablesOf T s t)) noAttributes (element 0 ∷ []) (choice p₁ p₂)) r
+        go : (r : Bool) → Decides (Matches (lookups (tablesOf T s t)) noAttributes (element 0 ∷ []) (patternOf s p₂)) r
+            → Decides (Matches (lookups (tablesOf T s t)) noAttributes (element 0 ∷ []) (choice p₁ p₂)) r
         go true m = choice-2 m
         go false m = neither (lookups (tablesOf T s t)) no-first m
 
     -- operands are smaller rows, and of the sort that start may have
     module _ (q : StartAsked s pairs p) where
       less : {r : ℕ} → Operand r (choice p₁ p₂) → r < p
-      less {r} i = restricted (tablesOf (q .root .strings) s (q .root .instance)) (q .root .pass .schema) .falls p r (subst (Subpattern r) (sym is-choice) (operand i))
+      less {r} i =
+          restricted (tablesOf (q .root .strings) s (q .root .instance))
+          (q .root .pass .schema) .falls p r (subst (Subpattern r) (sym is-choice) (operand i))
 
       pub first-less : p₁ < p
       first-less = less choice-first
@@ -117,8 +133,11 @@ module _ (s pairs : List ℕ) (p : ℕ) where
       pub second-less : p₂ < p
       second-less = less choice-second
 
-      both : Starts (lookups (tablesOf (q .root .strings) s (q .root .instance))) (patternOf s p₁) × Starts (lookups (tablesOf (q .root .strings) s (q .root .instance))) (patternOf s p₂)
-      both = sides (lookups (tablesOf (q .root .strings) s (q .root .instance))) (subst (Starts (lookups (tablesOf (q .root .strings) s (q .root .instance)))) is-choice (q .starts))
+      both : Starts (lookups (tablesOf (q .root .strings) s (q .root .instance))) (patternOf s p₁)
+          × Starts (lookups (tablesOf (q .root .strings) s (q .root .instance))) (patternOf s p₂)
+      both =
+          sides (lookups (tablesOf (q .root .strings) s (q .root .instance)))
+          (subst (Starts (lookups (tablesOf (q .root .strings) s (q .root .instance)))) is-choice (q .starts))
 
       pub first-asked : StartAsked s pairs p₁
       first-asked = record { root = q .root; starts = both .0 }
@@ -130,15 +149,21 @@ module _ (s pairs : List ℕ) (p : ℕ) where
   pub tells-nothing : kindOf s p ≢ kind.ref → kindOf s p ≢ kind.choice → TellsRoot s pairs p false
   tells-nothing n₈ n₁₀ T t pass right starts = go (patternOf s p) refl starts
     where
-      go : (x : Pattern) → patternOf s p ≡ x → Starts (lookups (tablesOf T s t)) x → Matches (lookups (tablesOf T s t)) noAttributes (element 0 ∷ []) (patternOf s p) → ⊥
-      go x f starts-notAllowed m = never (lookups (tablesOf T s t)) (subst (Matches (lookups (tablesOf T s t)) noAttributes (element 0 ∷ [])) f m)
+      go : (x : Pattern) → patternOf s p ≡ x → Starts (lookups (tablesOf T s t)) x
+          → Matches (lookups (tablesOf T s t)) noAttributes (element 0 ∷ []) (patternOf s p) → ⊥
+      go x f starts-notAllowed m =
+          never (lookups (tablesOf T s t))
+          (subst (Matches (lookups (tablesOf T s t)) noAttributes (element 0 ∷ [])) f m)
       go x f starts-ref m = n₈ (from-ref (row-makes s p f) .0)
       go x f (starts-choice k₁ k₂) m = n₁₀ (from-choice (row-makes s p f) .0)
 
 -- the pattern of start is the first field of the last row
 module _ (s pairs : List ℕ) (q : ℕ) (f : q ≡ aOf s (rowsOf s - 1)) where
   pub start-asked : RootAsked s pairs → StartAsked s pairs q
-  start-asked r = record { root = r; starts = rw f (start-starts (tablesOf (r .strings) s (r .instance)) (r .pass .schema)) }
+  start-asked r =
+      record { root = r; starts = rw f (start-starts (tablesOf (r .strings) s (r .instance)) (r .pass .schema)) }
 
   pub tells-valid : (r : Bool) → TellsRoot s pairs q r → TellsValid s pairs r
-  tells-valid r h = record { tells = λ T t pass right. rw f at (h T t pass right (rw f (start-starts (tablesOf T s t) (pass .schema)))) }
+  tells-valid r h = record {
+    tells = λ T t pass right. rw f at (h T t pass right (rw f (start-starts (tablesOf T s t) (pass .schema))));
+  }

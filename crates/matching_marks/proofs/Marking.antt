@@ -1,4 +1,5 @@
--- The rows of a pattern are marked: its operands first, and then its own row.
+-- The rows of a pattern are marked: its operands first, and then its own row. Whatever is stored at a row is right, so
+-- that operands need not be disjoint.
 use mathlib.Core.Path.{_≡_, refl, sym, _∙_, subst}
 use mathlib.Core.Logic.{_⊎_, inl, inr, _≢_}
 use mathlib.Core.Bool.{true, false≢true}
@@ -23,7 +24,8 @@ use Rattle.tables.proofs.Booleans.{and-left, and-right}
 use Rattle.matching_rules.specs.Reach.{Operand, operand}
 use Rattle.matching_rules.proofs.RowPatterns.{part-child, operand-occurs}
 use Rattle.matching_marks.specs.Answers.{firstOperand, secondOperand}
-use Rattle.matching_marks.specs.Marks.{LeafWord, NamedWord, TakenWord, SingleWord, RowMarked, PatternMarked, StayMarked, Marking}
+use Rattle.matching_marks.specs.Marks.{LeafWord, NamedWord, TakenWord, SingleWord}
+use Rattle.matching_marks.specs.Marks.{RowMarked, PatternMarked, StayMarked, Marking}
 
 -- the operands of a row by its kind
 module _ (s : List ℕ) (p : ℕ) where
@@ -37,7 +39,10 @@ module _ (s : List ℕ) (p : ℕ) where
     where
       go : Dec (kindOf s p < kind.oneOrMore) → firstOperand s p ≡ p
       go (yes h) = rw (lt-leb kind.oneOrMore (kindOf s p) h)
-      go (no h) = let l = not-less h in let m = not-less (f l) in rw (le-leb kind.oneOrMore (kindOf s p) l, lt-leb (kindOf s p) kind.interleave (omega arith))
+      go (no h) =
+          let l = not-less h in
+          let m = not-less (f l) in
+          rw (le-leb kind.oneOrMore (kindOf s p) l, lt-leb (kindOf s p) kind.interleave (omega arith))
 
   pub second-is : kind.choice ≤ kindOf s p → kindOf s p < suc kind.interleave → secondOperand s p ≡ bOf s p
   unfolding secondOperand
@@ -49,7 +54,10 @@ module _ (s : List ℕ) (p : ℕ) where
     where
       go : Dec (kindOf s p < kind.choice) → secondOperand s p ≡ p
       go (yes h) = rw (lt-leb kind.choice (kindOf s p) h)
-      go (no h) = let l = not-less h in let m = not-less (f l) in rw (le-leb kind.choice (kindOf s p) l, lt-leb (kindOf s p) kind.interleave (omega arith))
+      go (no h) =
+          let l = not-less h in
+          let m = not-less (f l) in
+          rw (le-leb kind.choice (kindOf s p) l, lt-leb (kindOf s p) kind.interleave (omega arith))
 
   -- a oneOrMore has no child by its field b
   no-second : kindOf s p ≡ kind.oneOrMore → {r : ℕ} → Child s r p → r ≡ aOf s p
@@ -57,14 +65,19 @@ module _ (s : List ℕ) (p : ℕ) where
   no-second z (by-a n e) = sym e
   no-second z (by-b n e) = absurd (false≢true (rw z at n))
 
-  child-operand : connective (kindOf s p) ≡ true → {r : ℕ} → Child s r p → (r ≡ firstOperand s p) ⊎ (r ≡ secondOperand s p)
+  child-operand : connective (kindOf s p) ≡ true → {r : ℕ}
+      → Child s r p → (r ≡ firstOperand s p) ⊎ (r ≡ secondOperand s p)
   child-operand c {r} d = go (ℕ-discrete (kindOf s p) kind.oneOrMore) d
     where
       low : kind.oneOrMore ≤ kindOf s p
-      low = leb-true kind.oneOrMore (kindOf s p) (and-left (leb kind.oneOrMore (kindOf s p)) (leb (kindOf s p) kind.interleave) c)
+      low =
+          leb-true kind.oneOrMore (kindOf s p)
+          (and-left (leb kind.oneOrMore (kindOf s p)) (leb (kindOf s p) kind.interleave) c)
 
       high : kindOf s p ≤ kind.interleave
-      high = leb-true (kindOf s p) kind.interleave (and-right (leb kind.oneOrMore (kindOf s p)) (leb (kindOf s p) kind.interleave) c)
+      high =
+          leb-true (kindOf s p) kind.interleave
+          (and-right (leb kind.oneOrMore (kindOf s p)) (leb (kindOf s p) kind.interleave) c)
 
       go : Dec (kindOf s p ≡ kind.oneOrMore) → Child s r p → (r ≡ firstOperand s p) ⊎ (r ≡ secondOperand s p)
       go (yes z) d = inl (no-second z d ∙ sym (first-is low (let h = high in omega arith)))
@@ -72,7 +85,8 @@ module _ (s : List ℕ) (p : ℕ) where
       go (no z) (by-b n e) = inr (sym e ∙ sym (second-is (let h = low in omega arith) (let h = high in omega arith)))
 
 -- what occurs in p is p, or occurs in a child of it
-occurs-split : {s : List ℕ} {q p : ℕ} → Occurs s q p → (q ≡ p) ⊎ ((r : ℕ) × (connective (kindOf s p) ≡ true) × Child s r p × Occurs s q r)
+occurs-split : {s : List ℕ} {q p : ℕ} → Occurs s q p
+    → (q ≡ p) ⊎ ((r : ℕ) × (connective (kindOf s p) ≡ true) × Child s r p × Occurs s q r)
 occurs-split itself = inl refl
 occurs-split (within {q = r} c d o) = inr (r, c, d, o)
 
@@ -102,8 +116,10 @@ module _ (J : Tables) (e attributes : ℕ) (it : ℕ → Item) (items : ℕ) whe
   module _ (marks named taken single : List ℕ) (p u v w x : ℕ) where
     -- right words are stored at row p: it is marked then, and so is every row that was
     pub row-stored : p < length marks → p < length named → p < length taken → p < length single
-        → LeafWord J e attributes it items p u → NamedWord J e attributes p v → TakenWord J it items p w → SingleWord J e attributes p x
-        → Stay marks named taken single (set marks p u) (set named p v) (set taken p w) (set single p x) × Row (set marks p u) (set named p v) (set taken p w) (set single p x) p
+        → LeafWord J e attributes it items p u → NamedWord J e attributes p v
+        → TakenWord J it items p w → SingleWord J e attributes p x
+        → Stay marks named taken single (set marks p u) (set named p v) (set taken p w) (set single p x)
+        × Row (set marks p u) (set named p v) (set taken p w) (set single p x) p
     row-stored h₁ h₂ h₃ h₄ leaf name take only = (record { stays = λ q m. go q m (ℕ-discrete q p) }, new)
       where
         new : Row (set marks p u) (set named p v) (set taken p w) (set single p x) p
@@ -114,7 +130,8 @@ module _ (J : Tables) (e attributes : ℕ) (it : ℕ → Item) (items : ℕ) whe
           singles = put-same (SingleWord J e attributes p) single p x h₄ only;
         }
 
-        go : (q : ℕ) → Row marks named taken single q → Dec (q ≡ p) → Row (set marks p u) (set named p v) (set taken p w) (set single p x) q
+        go : (q : ℕ) → Row marks named taken single q → Dec (q ≡ p)
+            → Row (set marks p u) (set named p v) (set taken p w) (set single p x) q
         go q m (yes z) = subst (Row (set marks p u) (set named p v) (set taken p w) (set single p x)) (sym z) new
         go q m (no z) = record {
           leaf = put-other (LeafWord J e attributes it items q) marks p q u z (m .leaf);
@@ -124,25 +141,39 @@ module _ (J : Tables) (e attributes : ℕ) (it : ℕ → Item) (items : ℕ) whe
         }
 
   -- the rows in the operands of row p are marked, one operand after the other
-  module _ {marks₀ named₀ taken₀ single₀ marks₁ named₁ taken₁ single₁ marks named taken single : List ℕ} (p first second : ℕ) where
+  module _ {marks₀ named₀ taken₀ single₀ marks₁ named₁ taken₁ single₁ marks named taken single : List ℕ}
+      (p first second : ℕ) where
     pub operands-marked : first ≡ firstOperand s p → second ≡ secondOperand s p
-        → Stay marks₀ named₀ taken₀ single₀ marks₁ named₁ taken₁ single₁ × (first < p → Pattern marks₁ named₁ taken₁ single₁ first)
-        → Stay marks₁ named₁ taken₁ single₁ marks named taken single × (second < p → Pattern marks named taken single second)
-        → Stay marks₀ named₀ taken₀ single₀ marks named taken single × ((q : ℕ) → Occurs s q p → q ≢ p → Row marks named taken single q)
-    operands-marked f g one two = (record { stays = λ q m. two .0 .stays q (one .0 .stays q m) }, λ q o n. at q n (occurs-split o))
+        → Stay marks₀ named₀ taken₀ single₀ marks₁ named₁ taken₁ single₁
+        × (first < p → Pattern marks₁ named₁ taken₁ single₁ first)
+        → Stay marks₁ named₁ taken₁ single₁ marks named taken single
+        × (second < p → Pattern marks named taken single second)
+        → Stay marks₀ named₀ taken₀ single₀ marks named taken single
+        × ((q : ℕ) → Occurs s q p → q ≢ p → Row marks named taken single q)
+    operands-marked f g one two =
+        (record { stays = λ q m. two .0 .stays q (one .0 .stays q m) }, λ q o n. at q n (occurs-split o))
       where
-        below : (q r : ℕ) → Child s r p → Occurs s q r → (r ≡ firstOperand s p) ⊎ (r ≡ secondOperand s p) → Row marks named taken single q
-        below q r d o (inl i) = let k : r ≡ first = i ∙ sym f in two .0 .stays q (one .1 (subst (λ (x : ℕ). x < p) k (child-less d)) .rows q (subst (Occurs s q) k o))
-        below q r d o (inr i) = let k : r ≡ second = i ∙ sym g in two .1 (subst (λ (x : ℕ). x < p) k (child-less d)) .rows q (subst (Occurs s q) k o)
+        below : (q r : ℕ) → Child s r p → Occurs s q r
+            → (r ≡ firstOperand s p) ⊎ (r ≡ secondOperand s p) → Row marks named taken single q
+        below q r d o (inl i) =
+            let k : r ≡ first = i ∙ sym f in
+            two .0 .stays q (one .1 (subst (λ (x : ℕ). x < p) k (child-less d)) .rows q (subst (Occurs s q) k o))
+        below q r d o (inr i) =
+            let k : r ≡ second = i ∙ sym g in
+            two .1 (subst (λ (x : ℕ). x < p) k (child-less d)) .rows q (subst (Occurs s q) k o)
 
-        at : (q : ℕ) → q ≢ p → (q ≡ p) ⊎ ((r : ℕ) × (connective (kindOf s p) ≡ true) × Child s r p × Occurs s q r) → Row marks named taken single q
+        at : (q : ℕ) → q ≢ p → (q ≡ p) ⊎ ((r : ℕ) × (connective (kindOf s p) ≡ true) × Child s r p × Occurs s q r)
+            → Row marks named taken single q
         at q n (inl z) = absurd (n z)
         at q n (inr (r, c, d, o)) = below q r d o (child-operand s p c d)
 
   -- the pattern at row p is marked once its operands are, and then its row
-  module _ {marks₀ named₀ taken₀ single₀ marks₁ named₁ taken₁ single₁ marks named taken single : List ℕ} {strings : ℕ} (right : RowsRight strings s) (p : ℕ) where
-    pub pattern-marked : Stay marks₀ named₀ taken₀ single₀ marks₁ named₁ taken₁ single₁ × ((q : ℕ) → Occurs s q p → q ≢ p → Row marks₁ named₁ taken₁ single₁ q)
-        → (((r : ℕ) → Operand r (patternOf s p) → Row marks₁ named₁ taken₁ single₁ r) → Stay marks₁ named₁ taken₁ single₁ marks named taken single × Row marks named taken single p)
+  module _ {marks₀ named₀ taken₀ single₀ marks₁ named₁ taken₁ single₁ marks named taken single : List ℕ}
+      {strings : ℕ} (right : RowsRight strings s) (p : ℕ) where
+    pub pattern-marked : Stay marks₀ named₀ taken₀ single₀ marks₁ named₁ taken₁ single₁
+        × ((q : ℕ) → Occurs s q p → q ≢ p → Row marks₁ named₁ taken₁ single₁ q)
+        → (((r : ℕ) → Operand r (patternOf s p) → Row marks₁ named₁ taken₁ single₁ r)
+        → Stay marks₁ named₁ taken₁ single₁ marks named taken single × Row marks named taken single p)
         → Marking J e attributes it items marks₀ named₀ taken₀ single₀ marks named taken single p
     pattern-marked below own = record {
       kept = record { stays = λ q m. done .0 .stays q (below .0 .stays q m) };

@@ -16,8 +16,11 @@ use Rattle.tables.proofs.Numbers.{not-less}
 use Rattle.sets.specs.Bits.{bit}
 use Rattle.sets.proofs.Members.{none-has, or-has, has-or-l, has-or-r}
 use Rattle.matching_rules.specs.Items.{Lookups}
-use Rattle.matching_rules.specs.Reach.{Operand, repeated, choice-first, choice-second, group-first, group-second, interleave-first, interleave-second, Reaches, here, there}
-use Rattle.matching_rules.proofs.RowPatterns.{Makes, makes-empty, makes-notAllowed, makes-text, makes-data, makes-except, makes-value, makes-list, makes-attribute, makes-ref, makes-oneOrMore, makes-choice, makes-group, makes-interleave, makes-none}
+use Rattle.matching_rules.specs.Reach.{Operand, repeated, choice-first, choice-second, group-first}
+use Rattle.matching_rules.specs.Reach.{group-second, interleave-first, interleave-second, Reaches, here, there}
+use Rattle.matching_rules.proofs.RowPatterns.{Makes, makes-empty, makes-notAllowed, makes-text, makes-data}
+use Rattle.matching_rules.proofs.RowPatterns.{makes-except, makes-value, makes-list, makes-attribute, makes-ref}
+use Rattle.matching_rules.proofs.RowPatterns.{makes-oneOrMore, makes-choice, makes-group, makes-interleave, makes-none}
 use Rattle.matching_marks.specs.Tests.{joinedBy}
 use Rattle.matching_marks.proofs.RowKinds.{operand-kinds}
 
@@ -29,7 +32,8 @@ module _ (k v w : ℕ) where
 
   pub joined-two : kind.choice ≤ k → k < suc kind.interleave → joinedBy k v w ≡ bitOr v w
   unfolding joinedBy
-  joined-two h l = rw (ne-eqb k kind.oneOrMore (λ e. omega arith), le-leb kind.choice k h, le-leb k kind.interleave (omega arith))
+  joined-two h l =
+      rw (ne-eqb k kind.oneOrMore (λ e. omega arith), le-leb kind.choice k h, le-leb k kind.interleave (omega arith))
 
   pub joined-none : (kind.oneOrMore ≤ k → ¬ (k < suc kind.interleave)) → joinedBy k v w ≡ 0
   unfolding joinedBy
@@ -40,7 +44,11 @@ module _ (k v w : ℕ) where
       go (no h) =
           let l = not-less h in
           let m = not-less (f l) in
-          rw (ne-eqb k kind.oneOrMore (λ e. omega arith), le-leb kind.choice k (omega arith), lt-leb k kind.interleave (omega arith))
+          rw (
+            ne-eqb k kind.oneOrMore (λ e. omega arith),
+            le-leb kind.choice k (omega arith),
+            lt-leb k kind.interleave (omega arith),
+          )
 
 -- the operands of a connective
 operand-one : {r a : ℕ} → Operand r (oneOrMore a) → r ≡ a
@@ -83,7 +91,8 @@ module _ (words : List ℕ) (j : ℕ) where
       λ o. let i = operand-kinds (o .1) m in absurd (f (i .0) (i .1)),
     )
 
-    two : {x : Pattern} → kind.choice ≤ k → k < suc kind.interleave → Operand a x → Operand b x → ((r : ℕ) → Operand r x → (r ≡ a) ⊎ (r ≡ b)) → Joined k a b x
+    two : {x : Pattern} → kind.choice ≤ k → k < suc kind.interleave → Operand a x
+        → Operand b x → ((r : ℕ) → Operand r x → (r ≡ a) ⊎ (r ≡ b)) → Joined k a b x
     two {x} h l first second only = rw (joined-two k (getD words a 0) (getD words b 0) h l) (to, from)
       where
         to : bit (bitOr (getD words a 0) (getD words b 0)) j ≡ true → InOperand x
@@ -106,14 +115,19 @@ module _ (words : List ℕ) (j : ℕ) where
   joined-members (makes-list e) = leaf _ _ _ (makes-list e) (λ h l. omega arith)
   joined-members (makes-attribute e) = leaf _ _ _ (makes-attribute e) (λ h l. omega arith)
   joined-members (makes-ref e) = leaf _ _ _ (makes-ref e) (λ h l. omega arith)
-  joined-members {k} {a} {b} (makes-oneOrMore e) = rw (joined-one k (getD words a 0) (getD words b 0) e) (λ h. (a, repeated, h), λ o. rw (operand-one (o .1)) at (o .2))
-  joined-members (makes-choice e) = two _ _ _ (omega arith) (omega arith) choice-first choice-second (λ r. operand-choice)
+  joined-members {k} {a} {b} (makes-oneOrMore e) =
+      rw (joined-one k (getD words a 0) (getD words b 0) e)
+      (λ h. (a, repeated, h), λ o. rw (operand-one (o .1)) at (o .2))
+  joined-members (makes-choice e) =
+      two _ _ _ (omega arith) (omega arith) choice-first choice-second (λ r. operand-choice)
   joined-members (makes-group e) = two _ _ _ (omega arith) (omega arith) group-first group-second (λ r. operand-group)
-  joined-members (makes-interleave e) = two _ _ _ (omega arith) (omega arith) interleave-first interleave-second (λ r. operand-interleave)
+  joined-members (makes-interleave e) =
+      two _ _ _ (omega arith) (omega arith) interleave-first interleave-second (λ r. operand-interleave)
   joined-members (makes-none n) = leaf _ _ _ (makes-none n) (no-operand-kind n)
 
   -- where the words of the operands tell Q
-  pub joined-operands : {k a b : ℕ} {x : Pattern} (Q : ℕ → Type 0) → Makes k a b x → ((r : ℕ) → Operand r x → (bit (getD words r 0) j ≡ true) ↔ Q r)
+  pub joined-operands : {k a b : ℕ} {x : Pattern} (Q : ℕ → Type 0) → Makes k a b x
+      → ((r : ℕ) → Operand r x → (bit (getD words r 0) j ≡ true) ↔ Q r)
       → (bit (joinedBy k (getD words a 0) (getD words b 0)) j ≡ true) ↔ ((r : ℕ) × Operand r x × Q r)
   joined-operands Q m f = (
     λ h. let o = joined-members m .0 h in (o .0, o .1, f (o .0) (o .1) .0 (o .2)),
@@ -130,8 +144,10 @@ module _ (L : Lookups) {test : Pattern → Bool} {x : Pattern} where
   reaches-itself n (here h) = h
   reaches-itself n (there r o h) = absurd (n r o)
 
-pub joined-reaches : (L : Lookups) {test : Pattern → Bool} {k a b : ℕ} {x : Pattern} (words : List ℕ) (j : ℕ) → Makes k a b x → test x ≡ false
-    → ((r : ℕ) → Operand r x → (bit (getD words r 0) j ≡ true) ↔ Reaches L test (L .pattern r)) → (bit (joinedBy k (getD words a 0) (getD words b 0)) j ≡ true) ↔ Reaches L test x
+pub joined-reaches : (L : Lookups) {test : Pattern → Bool} {k a b : ℕ} {x : Pattern} (words : List ℕ) (j : ℕ)
+    → Makes k a b x → test x ≡ false
+    → ((r : ℕ) → Operand r x → (bit (getD words r 0) j ≡ true) ↔ Reaches L test (L .pattern r))
+    → (bit (joinedBy k (getD words a 0) (getD words b 0)) j ≡ true) ↔ Reaches L test x
 joined-reaches L {test} words j m n f =
     let o = joined-operands words j (λ r. Reaches L test (L .pattern r)) m f in
     (λ h. let i = o .0 h in there (i .0) (i .1) (i .2), λ h. o .1 (reaches-operand L n h))

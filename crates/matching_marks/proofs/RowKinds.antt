@@ -14,20 +14,28 @@ use Rattle.schema.specs.RowRule.{RowsRight}
 use Rattle.schema.specs.Views.{Pattern, text, attribute}
 use Rattle.schema.proofs.Fields.{both-fields, is-text, is-data, is-value, is-list}
 use Rattle.schema.proofs.Sorts.{definition-kind}
-use Rattle.matching_rules.specs.Reach.{Role, oneString, roleOf, itemBy, stringBy, isSharing, takesAny, takesString, Operand, repeated, choice-first, choice-second, group-first, group-second, interleave-first, interleave-second}
+use Rattle.matching_rules.specs.Reach.{Role, oneString, roleOf, itemBy, stringBy, isSharing, takesAny}
+use Rattle.matching_rules.specs.Reach.{takesString, Operand, repeated, choice-first, choice-second}
+use Rattle.matching_rules.specs.Reach.{group-first, group-second, interleave-first, interleave-second}
 use Rattle.tables.proofs.Booleans.{or-either}
-use Rattle.matching_rules.proofs.KindTests.{HasRole, role-strings, role-string, role-attribute, role-element, role-sharing, role-another, has-role}
-use Rattle.matching_rules.proofs.RowPatterns.{Makes, makes-empty, makes-notAllowed, makes-text, makes-data, makes-except, makes-value, makes-list, makes-attribute, makes-ref, makes-oneOrMore, makes-choice, makes-group, makes-interleave, makes-none, has-kind}
+use Rattle.matching_rules.proofs.KindTests.{HasRole, role-strings, role-string, role-attribute}
+use Rattle.matching_rules.proofs.KindTests.{role-element, role-sharing, role-another, has-role}
+use Rattle.matching_rules.proofs.RowPatterns.{Makes, makes-empty, makes-notAllowed, makes-text}
+use Rattle.matching_rules.proofs.RowPatterns.{makes-data, makes-except, makes-value, makes-list}
+use Rattle.matching_rules.proofs.RowPatterns.{makes-attribute, makes-ref, makes-oneOrMore, makes-choice}
+use Rattle.matching_rules.proofs.RowPatterns.{makes-group, makes-interleave, makes-none, has-kind}
 
 -- the patterns that take a string
 pub data StringPattern : Pattern → Type 0 where
   of-text : StringPattern text
   of-string : {x : Pattern} → roleOf x ≡ oneString → StringPattern x
 
-string-kind : {k : ℕ} → (eqb k kind.value || eqb k kind.«data» || eqb k kind.list) ≡ true → (kind.text ≤ k) × (k < suc kind.list)
+string-kind : {k : ℕ} → (eqb k kind.value || eqb k kind.«data» || eqb k kind.list) ≡ true
+    → (kind.text ≤ k) × (k < suc kind.list)
 string-kind {k} h =
     ⊎-elim
-    (λ i. ⊎-elim (λ e. let f = eqb-true k kind.value e in (omega arith, omega arith)) (λ e. let f = eqb-true k kind.«data» e in (omega arith, omega arith)) (or-either _ _ i))
+    (λ i. ⊎-elim (λ e. let f = eqb-true k kind.value e in (omega arith, omega arith))
+    (λ e. let f = eqb-true k kind.«data» e in (omega arith, omega arith)) (or-either _ _ i))
     (λ e. let f = eqb-true k kind.list e in (omega arith, omega arith))
     (or-either _ _ h)
 
@@ -63,7 +71,8 @@ module _ {k a b : ℕ} where
   string-made h l (makes-choice e) = absurd (omega arith)
   string-made h l (makes-group e) = absurd (omega arith)
   string-made h l (makes-interleave e) = absurd (omega arith)
-  string-made h l (makes-none n) = absurd (go (ℕ-discrete k kind.text) (ℕ-discrete k kind.«data») (ℕ-discrete k kind.value))
+  string-made h l (makes-none n) =
+      absurd (go (ℕ-discrete k kind.text) (ℕ-discrete k kind.«data») (ℕ-discrete k kind.value))
     where
       go : Dec (k ≡ kind.text) → Dec (k ≡ kind.«data») → Dec (k ≡ kind.value) → ⊥
       go (yes e) c d = n (is-text e)
@@ -75,14 +84,16 @@ module _ {k a b : ℕ} where
   pub string-kinds : {x : Pattern} → Makes k a b x → takesString x ≡ true → (kind.text ≤ k) × (k < suc kind.list)
   string-kinds m h = string-role (has-role m) h
 
-  pub taker-kinds : {x : Pattern} → Makes k a b x → takesAny x ≡ true → ((kind.text ≤ k) × (k < suc kind.list)) ⊎ (k ≡ kind.ref)
+  pub taker-kinds : {x : Pattern} → Makes k a b x → takesAny x ≡ true
+      → ((kind.text ≤ k) × (k < suc kind.list)) ⊎ (k ≡ kind.ref)
   taker-kinds m h = taker-role (has-role m) h
 
   pub from-attribute : {nc q : ℕ} → Makes k a b (attribute nc q) → (k ≡ kind.attribute) × (a ≡ nc) × (b ≡ q)
   from-attribute (makes-attribute e) = (e, refl, refl)
 
   -- a pattern with operands is a connective, and a group or interleave past choice
-  pub operand-kinds : {r : ℕ} {x : Pattern} → Operand r x → Makes k a b x → (kind.oneOrMore ≤ k) × (k < suc kind.interleave)
+  pub operand-kinds : {r : ℕ} {x : Pattern} → Operand r x
+      → Makes k a b x → (kind.oneOrMore ≤ k) × (k < suc kind.interleave)
   operand-kinds repeated (makes-oneOrMore e) = (omega arith, omega arith)
   operand-kinds choice-first (makes-choice e) = (omega arith, omega arith)
   operand-kinds choice-second (makes-choice e) = (omega arith, omega arith)

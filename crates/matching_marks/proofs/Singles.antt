@@ -25,7 +25,8 @@ use Rattle.matching_rules.proofs.Inversion.{step, AttributeMatch}
 use Rattle.matching_rules.proofs.KindTests.{attribute-made}
 use Rattle.matching_rules.proofs.Occurrences.{named}
 use Rattle.matching_rules.proofs.Passing.{restricted}
-use Rattle.matching_rules.specs.Reach.{Operand, repeated, choice-first, choice-second, Reaches, here, there, itself, down, namesAttribute}
+use Rattle.matching_rules.specs.Reach.{Operand, repeated, choice-first, choice-second}
+use Rattle.matching_rules.specs.Reach.{Reaches, here, there, itself, down, namesAttribute}
 use Rattle.matching_rules.proofs.Repeats.{span-oneOrMore-attributes}
 use Rattle.matching_rules.specs.Restricted.{Restricted}
 use Rattle.matching_rules.proofs.RowPatterns.{Makes, row-makes}
@@ -58,10 +59,12 @@ module _ (L : Lookups) where
           record { named = rw f (m .named); valued = rw f (m .valued) }
 
   -- one attribute is matched by one repetition
-  alone-repeated : (R : Restricted L) (y p q : ℕ) → L .pattern p ≡ oneOrMore q → Alone y (L .pattern p) → Alone y (L .pattern q)
+  alone-repeated : (R : Restricted L) (y p q : ℕ) → L .pattern p ≡ oneOrMore q
+      → Alone y (L .pattern p) → Alone y (L .pattern q)
   unfolding run
   alone-repeated R y p q f d =
-      span-oneOrMore-attributes L NotMatch (λ k. element k) (λ k. false) q R (only y) (suc y) y (λ x h. let z = eqb-true y x h in omega arith) (eq-eqb y y refl)
+      span-oneOrMore-attributes L NotMatch (λ k. element k) (λ k. false) q R (only y)
+      (suc y) y (λ x h. let z = eqb-true y x h in omega arith) (eq-eqb y y refl)
       (λ x z h k same. sym (eqb-true y x h) ∙ eqb-true y z k) p 0 0 f .0 (omega arith, d) .single y (eq-eqb y y refl)
 
   repeated-from : (y : ℕ) {r q : ℕ} → Operand r (oneOrMore q) → Alone y (L .pattern r) → Alone y (oneOrMore q)
@@ -85,13 +88,17 @@ module _ (J : Tables) (e attributes : ℕ) (pass : SchemaPasses (schemaStrings (
   Single = SingleWord J e attributes
 
   -- a oneOrMore or choice is matched by an operand
-  by-operand : (y : ℕ) → kind.oneOrMore ≤ kindOf s p → kindOf s p < kind.group → ((r : ℕ) × Operand r (patternOf s p) × Alone L y (patternOf s r)) ↔ Alone L y (patternOf s p)
+  by-operand : (y : ℕ) → kind.oneOrMore ≤ kindOf s p → kindOf s p < kind.group
+      → ((r : ℕ) × Operand r (patternOf s p) × Alone L y (patternOf s r)) ↔ Alone L y (patternOf s p)
   by-operand y h l = go (decLt (kindOf s p) kind.choice)
     where
-      go : Dec (kindOf s p < kind.choice) → ((r : ℕ) × Operand r (patternOf s p) × Alone L y (patternOf s r)) ↔ Alone L y (patternOf s p)
+      go : Dec (kindOf s p < kind.choice)
+          → ((r : ℕ) × Operand r (patternOf s p) × Alone L y (patternOf s r)) ↔ Alone L y (patternOf s p)
       go (yes i) =
-          let f = oneOrMore-at s p (omega arith) in
-          (λ o. rw f (repeated-from L y (rw f at (o .1)) (o .2)), λ d. (aOf s p, rw f repeated, alone-repeated L (restricted J pass) y p (aOf s p) f d))
+          let f = oneOrMore-at s p (omega arith) in (
+            λ o. rw f (repeated-from L y (rw f at (o .1)) (o .2)),
+            λ d. (aOf s p, rw f repeated, alone-repeated L (restricted J pass) y p (aOf s p) f d),
+          )
       go (no i) =
           let k = not-less i in
           let f = choice-at s p (omega arith) in
@@ -103,16 +110,20 @@ module _ (J : Tables) (e attributes : ℕ) (pass : SchemaPasses (schemaStrings (
       let i = alone-attribute L (attributeRow e x) (aOf s p) (bOf s p) in
       rw (attribute-at s p f) (λ u. i .0 (a .0 u), λ d. a .1 (i .1 d))
 
-  pub single-operands : {w : ℕ} (single : List ℕ) → kind.oneOrMore ≤ kindOf s p → kindOf s p < kind.group → w ≡ joinedBy (kindOf s p) (getD single (aOf s p) 0) (getD single (bOf s p) 0)
+  pub single-operands : {w : ℕ} (single : List ℕ) → kind.oneOrMore ≤ kindOf s p → kindOf s p < kind.group
+      → w ≡ joinedBy (kindOf s p) (getD single (aOf s p) 0) (getD single (bOf s p) 0)
       → AtOperands s Single single p → Single p w
   single-operands single h l q operands x i flat =
       let y = attributeRow e x in
-      let j = joined-operands single x (λ r. Alone L y (patternOf s r)) (row-makes s p refl) (λ r o. operands r o x i (λ z k. flat z (down r o k))) in
+      let j = joined-operands single x (λ r. Alone L y (patternOf s r))
+      (row-makes s p refl) (λ r o. operands r o x i (λ z k. flat z (down r o k))) in
       let o = by-operand y h l in
       rw q (λ u. o .0 (j .0 u), λ d. j .1 (o .1 d))
 
-  pub single-none : kindOf s p ≢ kind.attribute → (kind.oneOrMore ≤ kindOf s p → ¬ (kindOf s p < kind.group)) → Single p 0
-  single-none no-attribute no-operand x h flat = (λ u. absurd (none-has x u), λ d. absurd (unreached (named L (NotMatch L) d y (eq-eqb y y refl))))
+  pub single-none : kindOf s p ≢ kind.attribute
+      → (kind.oneOrMore ≤ kindOf s p → ¬ (kindOf s p < kind.group)) → Single p 0
+  single-none no-attribute no-operand x h flat =
+      (λ u. absurd (none-has x u), λ d. absurd (unreached (named L (NotMatch L) d y (eq-eqb y y refl))))
     where
       y : ℕ
       y = attributeRow e x
@@ -123,4 +134,6 @@ module _ (J : Tables) (e attributes : ℕ) (pass : SchemaPasses (schemaStrings (
       -- a pattern that reaches an attribute is one, or has operands; a group or interleave is not flat then
       unreached : ¬ Reaches L (namesAttribute L y) (patternOf s p)
       unreached (here i) = no-attribute (attribute-made L y made i .0)
-      unreached (there r o i) = flat (patternOf s p) itself (operand-sharing o made (let k = operand-kinds o made in let z = not-less (no-operand (k .0)) in omega arith)) y (there r o i)
+      unreached (there r o i) =
+          flat (patternOf s p) itself (operand-sharing o made
+          (let k = operand-kinds o made in let z = not-less (no-operand (k .0)) in omega arith)) y (there r o i)

@@ -27,19 +27,24 @@ module _ (t : List ℕ) (P : ℕ → Type 0) where
   pub from-row : (r : ℕ) → From (suc r) → (isElement t r ≡ true → P r) → From r
   from-row r f g e h l i = ⊎-elim (λ z. rw (← z) (g (rw z i))) (λ z. f e z l i) (eq-or-lt-of-le h)
 
-module _ (J : Tables) (strings : StringsRight (J .strings)) (nodes : NodesRight (instanceStrings (J .strings)) (J .instance)) (P : ℕ → Type 0) where
+module _ (J : Tables) (strings : StringsRight (J .strings))
+    (nodes : NodesRight (instanceStrings (J .strings)) (J .instance)) (P : ℕ → Type 0) where
   abbrev t : List ℕ
   t = J .instance
 
   -- what holds of the later elements holds of the element children of e
-  pub of-children : (e : ℕ) → e < nodesOf t → From t P (suc e) → (x : ℕ) → List·Memᴰ (element x) (lookups J .children e) → P x
+  pub of-children : (e : ℕ) → e < nodesOf t → From t P (suc e)
+      → (x : ℕ) → List·Memᴰ (element x) (lookups J .children e) → P x
   of-children e h f x m = let c = child-element J strings nodes e x h m in f x (c .0) (c .1) (c .2)
 
   -- so a property that an element has where its element children have it holds of all elements
-  module _ (one : (e : ℕ) → e < nodesOf t → isElement t e ≡ true → ((x : ℕ) → List·Memᴰ (element x) (lookups J .children e) → P x) → P e) where
+  module _ (one : (e : ℕ) → e < nodesOf t → isElement t e ≡ true
+      → ((x : ℕ) → List·Memᴰ (element x) (lookups J .children e) → P x) → P e) where
     up-to : (n r : ℕ) → r + n ≡ nodesOf t → From t P r
     up-to zero r e = let z : r ≡ nodesOf t = omega arith in rw z (from-end t P)
-    up-to (suc n) r e = let f = up-to n (suc r) (omega arith) in from-row t P r f (λ i. one r (omega arith) i (of-children r (omega arith) f))
+    up-to (suc n) r e =
+        let f = up-to n (suc r) (omega arith) in
+        from-row t P r f (λ i. one r (omega arith) i (of-children r (omega arith) f))
 
     pub all-elements : (e : ℕ) → e < nodesOf t → isElement t e ≡ true → P e
     all-elements e = up-to (nodesOf t) 0 (omega arith) e (omega arith)

@@ -42,7 +42,8 @@ both-parts A P = fun-ext (λ x. go (A x) (P x))
     go false p = refl
 
 -- and a union whose sides the test tells apart is no other
-pub first-part : (P : ℕ → Bool) {A a b : Attributes} → A ≡ a ∪ b → ((x : ℕ) → a x ≡ true → P x ≡ true) → ((x : ℕ) → b x ≡ true → P x ≡ false) → a ≡ A ∩ P
+pub first-part : (P : ℕ → Bool) {A a b : Attributes} → A ≡ a ∪ b
+    → ((x : ℕ) → a x ≡ true → P x ≡ true) → ((x : ℕ) → b x ≡ true → P x ≡ false) → a ≡ A ∩ P
 first-part P {A} {a} {b} e f g = fun-ext (λ x. go (a x) (b x) (A x) (P x) (ap (λ (s : Attributes). s x) e) (f x) (g x))
   where
     go : (a b c p : Bool) → c ≡ (a || b) → (a ≡ true → p ≡ true) → (b ≡ true → p ≡ false) → a ≡ (c && p)
@@ -50,7 +51,8 @@ first-part P {A} {a} {b} e f g = fun-ext (λ x. go (a x) (b x) (A x) (P x) (ap (
     go false true c p e f g = rw (e, g refl)
     go false false c p e f g = rw e
 
-pub second-part : (P : ℕ → Bool) {A a b : Attributes} → A ≡ a ∪ b → ((x : ℕ) → a x ≡ true → P x ≡ true) → ((x : ℕ) → b x ≡ true → P x ≡ false) → b ≡ A ∖ P
+pub second-part : (P : ℕ → Bool) {A a b : Attributes} → A ≡ a ∪ b
+    → ((x : ℕ) → a x ≡ true → P x ≡ true) → ((x : ℕ) → b x ≡ true → P x ≡ false) → b ≡ A ∖ P
 second-part P {A} {a} {b} e f g =
     first-part (λ x. not (P x)) (e ∙ fun-ext (λ x. or-comm (a x) (b x))) (λ x h. ap not (g x h)) (λ x h. ap not (f x h))
 

@@ -7,13 +7,15 @@ use Prim.Native.Nat.{ℕ, _<_}
 use native.Mathlib.Omega.{arith}
 use native.Mathlib.Decide.{ℕ-discrete}
 use Rattle.tables.specs.Tables.{StringTable, Tables}
-use Rattle.strings.specs.Strings.{textOf, endOf, instanceStrings, StringsRight, bad-end, repeated, at-front, first-not-empty}
+use Rattle.strings.specs.Strings.{textOf, endOf, instanceStrings, StringsRight}
+use Rattle.strings.specs.Strings.{bad-end, repeated, at-front, first-not-empty}
 use Rattle.strings.proofs.Table.{ends-of}
 use Rattle.instance.specs.Nodes.{text, aOf, nodesOf, kindOf, isChild}
 use Rattle.instance.specs.NodeRule.{NodesRight}
 use Rattle.instance.specs.Elements.{isElement, childrenOf}
 use Rattle.instance.proofs.Elements.{text-string, child-later}
-use Rattle.instance.proofs.RowLists.{listed-row, Alternate, no-row, element-row, last-text, text-row, children-alternate}
+use Rattle.instance.proofs.RowLists.{listed-row, Alternate, no-row, element-row}
+use Rattle.instance.proofs.RowLists.{last-text, text-row, children-alternate}
 use Rattle.matching_rules.specs.Items.{element, string}
 use Rattle.matching_rules.specs.Rules.{OkAsChildren, ok-empty, ok-element, ok-last, ok-string}
 use Rattle.matching_rules.specs.Job.{itemOf, lookups}
@@ -34,7 +36,8 @@ module _ {T : StringTable} (right : StringsRight T) where
       go [] e = absurd (right k (repeated (ends-of right) (l, (0, h, first-empty ∙ sym e))))
       go (c ∷ s) e = (c, s, e)
 
-module _ (J : Tables) (strings : StringsRight (J .strings)) (nodes : NodesRight (instanceStrings (J .strings)) (J .instance)) where
+module _ (J : Tables) (strings : StringsRight (J .strings))
+    (nodes : NodesRight (instanceStrings (J .strings)) (J .instance)) where
   abbrev t : List ℕ
   t = J .instance
 
@@ -54,11 +57,13 @@ module _ (J : Tables) (strings : StringsRight (J .strings)) (nodes : NodesRight 
   item-element : (r x : ℕ) → itemOf J r ≡ element x → (r ≡ x) × (isElement t r ≡ true)
   item-element r x = go (isElement t r) refl
     where
-      go : (b : Bool) → isElement t r ≡ b → cond b (element r) (string (textOf (J .strings) (aOf t r))) ≡ element x → (r ≡ x) × (isElement t r ≡ true)
+      go : (b : Bool) → isElement t r ≡ b → cond b (element r) (string (textOf (J .strings) (aOf t r))) ≡ element x
+          → (r ≡ x) × (isElement t r ≡ true)
       go true e f = (cc, e)
       go false e f = let z : _≡_ {A = ℕ} 0 1 = cc in absurd (omega arith)
 
-  pub child-element : (e x : ℕ) → e < nodesOf t → List·Memᴰ (element x) (lookups J .children e) → (e < x) × (x < nodesOf t) × (isElement t x ≡ true)
+  pub child-element : (e x : ℕ) → e < nodesOf t → List·Memᴰ (element x) (lookups J .children e)
+      → (e < x) × (x < nodesOf t) × (isElement t x ≡ true)
   child-element e x h m =
       let i = Memᴰ·of-map (itemOf J) (childrenOf t e) m in
       let j = item-element (i .0) x (i .2) in

@@ -17,18 +17,24 @@ use Rattle.schema.specs.Views.{Pattern}
 use Rattle.schema.proofs.Children.{child-is}
 use Rattle.schema_places.specs.Paths.{sharingKind}
 use Rattle.schema_places.specs.Places.{holdsWhole, notAllowed-inside}
-use Rattle.schema_sequences.specs.Content.{HasType, InList, emptyType, complexType, simpleType, groupable, value-type, data-type-1, data-type-2, list-type, text-type, ref-type, empty-type, attribute-type, sharing-type, oneOrMore-type, choice-type, sharing-not-groupable, repeat-not-groupable}
+use Rattle.schema_sequences.specs.Content.{HasType, InList, emptyType, complexType, simpleType, groupable}
+use Rattle.schema_sequences.specs.Content.{value-type, data-type-1, data-type-2, list-type, text-type}
+use Rattle.schema_sequences.specs.Content.{ref-type, empty-type, attribute-type, sharing-type, oneOrMore-type}
+use Rattle.schema_sequences.specs.Content.{choice-type, sharing-not-groupable, repeat-not-groupable}
 use Rattle.schema_restrictions.specs.Schema.{SchemaPasses}
 use Rattle.schema_sequences.proofs.Types.{sharing-kind}
 use Rattle.schema_restrictions.proofs.Outside.{child-outside}
 use Rattle.schema_restrictions.proofs.Typed.{grouped, has-content-type}
 use Rattle.matching_rules.specs.Reach.{Role, simple, itemBy, isSimple, takesAny}
 use Rattle.matching_rules.proofs.RowPatterns.{Sides, Makes}
-use Rattle.matching_rules.proofs.KindTests.{HasRole, role-strings, role-string, role-attribute, role-element, role-sharing, role-another, has-role}
+use Rattle.matching_rules.proofs.KindTests.{HasRole, role-strings, role-string, role-attribute}
+use Rattle.matching_rules.proofs.KindTests.{role-element, role-sharing, role-another, has-role}
 
 -- the least content type that a row of kind k may have
 abbrev pub leastType : ℕ → ℕ
-leastType k = cond (eqb k kind.value || eqb k kind.«data» || eqb k kind.list) simpleType (cond (eqb k kind.text || eqb k kind.ref) complexType emptyType)
+leastType k =
+    cond (eqb k kind.value || eqb k kind.«data» || eqb k kind.list) simpleType
+    (cond (eqb k kind.text || eqb k kind.ref) complexType emptyType)
 
 type-least : {s : List ℕ} {r c : ℕ} → HasType s r c → leastType (kindOf s r) ≤ c
 type-least (value-type e) = rw e (omega arith)
@@ -39,7 +45,8 @@ type-least (text-type e) = rw e (omega arith)
 type-least (ref-type e) = rw e (omega arith)
 type-least (empty-type e) = rw e (omega arith)
 type-least (attribute-type e t) = rw e (omega arith)
-type-least {s} {r} (sharing-type e t u g) = ⊎-elim (λ k. rw k (omega arith)) (λ k. rw k (omega arith)) (sharing-kind (kindOf s r) e)
+type-least {s} {r} (sharing-type e t u g) =
+    ⊎-elim (λ k. rw k (omega arith)) (λ k. rw k (omega arith)) (sharing-kind (kindOf s r) e)
 type-least (oneOrMore-type e t g) = rw e (omega arith)
 type-least (choice-type e t u) = rw e (omega arith)
 
@@ -51,12 +58,17 @@ module _ (s : List ℕ) (p q : ℕ) (o : connective (kindOf s p) ≡ true) where
   no-connective : {A : Type 0} {k : ℕ} → kindOf s p ≡ k → connective k ≡ false → A
   no-connective e f = absurd (false≢true (sym f ∙ sym (ap connective e) ∙ o))
 
-  side : {c d m : ℕ} → HasType s (childA s p) c → HasType s (childB s p) d → c ≤ m → d ≤ m → Child s q p → TypedUpTo s m q
-  side {c} {d} t u h l i = ⊎-elim (λ e. (c, subst (λ (x : ℕ). HasType s x c) e t, h)) (λ e. (d, subst (λ (x : ℕ). HasType s x d) e u, l)) (child-is i)
+  side : {c d m : ℕ} → HasType s (childA s p) c → HasType s (childB s p) d
+      → c ≤ m → d ≤ m → Child s q p → TypedUpTo s m q
+  side {c} {d} t u h l i =
+      ⊎-elim (λ e. (c, subst (λ (x : ℕ). HasType s x c) e t, h))
+      (λ e. (d, subst (λ (x : ℕ). HasType s x d) e u, l)) (child-is i)
 
   repeat-child-type : {c : ℕ} → kindOf s p ≡ kind.oneOrMore → HasType s (childA s p) c → Child s q p → TypedUpTo s c q
   unfolding shapeOf
-  repeat-child-type {c} e t (by-a n f) = let g : childA s p ≡ q = rw n f in (c, subst (λ (x : ℕ). HasType s x c) g t, omega arith)
+  repeat-child-type {c} e t (by-a n f) =
+      let g : childA s p ≡ q = rw n f in
+      (c, subst (λ (x : ℕ). HasType s x c) g t, omega arith)
   repeat-child-type e t (by-b n f) = absurd (false≢true (rw e at n))
 
   -- a child of a choice, group, interleave or oneOrMore has a type that is not greater
@@ -86,7 +98,8 @@ pub occurs-least : {s : List ℕ} {p r c : ℕ} → Occurs s r p → HasType s p
 occurs-least o t = let u = type-inside o t in omega (arith, type-least (u .1))
 
 -- the least type of a row by its role
-least-role : {k a : ℕ} {r : Role} → HasRole k a r → cond (simple r) simpleType (cond (itemBy r) complexType emptyType) ≤ leastType k
+least-role : {k a : ℕ} {r : Role} → HasRole k a r
+    → cond (simple r) simpleType (cond (itemBy r) complexType emptyType) ≤ leastType k
 least-role (role-strings e) = rw e (omega arith)
 least-role (role-string e) = rw e (omega arith)
 least-role (role-attribute e) = omega arith
@@ -101,7 +114,8 @@ module _ {k a b : ℕ} (x : Pattern) (m : Makes k a b x) where
   pub any-least : takesAny x ≡ true → complexType ≤ leastType k
   any-least e = go (isSimple x) (least-role (has-role m))
     where
-      go : (b : Bool) → cond b simpleType (cond (takesAny x) complexType emptyType) ≤ leastType k → complexType ≤ leastType k
+      go : (b : Bool) → cond b simpleType (cond (takesAny x) complexType emptyType) ≤ leastType k
+          → complexType ≤ leastType k
       go true h = omega arith
       go false h = rw e at h
 
@@ -114,11 +128,14 @@ pub record Grouped (s : List ℕ) (p q : ℕ) : Type 0 where
   pub before : simpleType ≤ first → second < complexType
   pub after : simpleType ≤ second → first < complexType
 
-groupable-told : (c d : ℕ) → groupable c d ≡ true → (simpleType ≤ c → d < complexType) × (simpleType ≤ d → c < complexType)
-groupable-told c d e = go (eqb c emptyType) refl (eqb d emptyType) refl (eqb c complexType) refl (eqb d complexType) refl e
+groupable-told : (c d : ℕ) → groupable c d ≡ true
+    → (simpleType ≤ c → d < complexType) × (simpleType ≤ d → c < complexType)
+groupable-told c d e =
+    go (eqb c emptyType) refl (eqb d emptyType) refl (eqb c complexType) refl (eqb d complexType) refl e
   where
     go :
-        (x : Bool) → eqb c emptyType ≡ x → (y : Bool) → eqb d emptyType ≡ y → (z : Bool) → eqb c complexType ≡ z → (w : Bool) → eqb d complexType ≡ w
+        (x : Bool) → eqb c emptyType ≡ x → (y : Bool) → eqb d emptyType ≡ y
+        → (z : Bool) → eqb c complexType ≡ z → (w : Bool) → eqb d complexType ≡ w
         → (x || y || z && w) ≡ true → (simpleType ≤ c → d < complexType) × (simpleType ≤ d → c < complexType)
     go true f y g z h w i j = let c₀ = eqb-true c emptyType f in (λ l. omega arith, λ l. omega arith)
     go false f true g z h w i j = let d₀ = eqb-true d emptyType g in (λ l. omega arith, λ l. omega arith)
@@ -132,8 +149,10 @@ groupable-told c d e = go (eqb c emptyType) refl (eqb d emptyType) refl (eqb c c
 -- of rows that are below no list
 module _ {strings : ℕ} {s : List ℕ} (pass : SchemaPasses strings s) (p : ℕ) (out : ¬ InList s p) where
   -- notAllowed is no operand, so an operand has a type
-  operand-type : (q : ℕ) → holdsWhole (kindOf s p) ≡ false → kindOf s p ≢ kind.list → Child s q p → isPattern (sortOf s q) ≡ true → (c : ℕ) × HasType s q c
-  operand-type q w n d i = has-content-type pass q i (λ e. pass .places q (notAllowed-inside p e d w)) (child-outside (pass .rows) d n out)
+  operand-type : (q : ℕ) → holdsWhole (kindOf s p) ≡ false → kindOf s p ≢ kind.list
+      → Child s q p → isPattern (sortOf s q) ≡ true → (c : ℕ) × HasType s q c
+  operand-type q w n d i =
+      has-content-type pass q i (λ e. pass .places q (notAllowed-inside p e d w)) (child-outside (pass .rows) d n out)
 
   -- the operands of a group or interleave
   pub sides-grouped : (p₁ p₂ : ℕ) → Sides s p p₁ p₂ → Grouped s p₁ p₂
@@ -143,7 +162,8 @@ module _ {strings : ℕ} {s : List ℕ} (pass : SchemaPasses strings s) (p : ℕ
       let u = operand-type p₂ (sides .not-whole) n (sides .second-child) (sides .second-pattern) in
       let a : HasType s (childA s p) (t .0) = rw (sides .first) (t .1) in
       let b : HasType s (childB s p) (u .0) = rw (sides .second) (u .1) in
-      let g = groupable-told (t .0) (u .0) (grouped pass (groupable (t .0) (u .0)) (pass .sequences p) (λ f. record { clash = sharing-not-groupable (t .0) (u .0) (sides .is-sharing) a b f; outside = out })) in
+      let g = groupable-told (t .0) (u .0) (grouped pass (groupable (t .0) (u .0)) (pass .sequences p)
+      (λ f. record { clash = sharing-not-groupable (t .0) (u .0) (sides .is-sharing) a b f; outside = out })) in
       record {
         first = t .0;
         second = u .0;
@@ -154,11 +174,13 @@ module _ {strings : ℕ} {s : List ℕ} (pass : SchemaPasses strings s) (p : ℕ
       }
 
   -- what is repeated is not simple
-  pub repeated-type : (q : ℕ) → kindOf s p ≡ kind.oneOrMore → childA s p ≡ q → Child s q p → isPattern (sortOf s q) ≡ true → (c : ℕ) × HasType s q c × (c < simpleType)
+  pub repeated-type : (q : ℕ) → kindOf s p ≡ kind.oneOrMore → childA s p ≡ q → Child s q p
+      → isPattern (sortOf s q) ≡ true → (c : ℕ) × HasType s q c × (c < simpleType)
   repeated-type q e f d i =
       let t = operand-type q (ap holdsWhole e) (λ z. omega arith) d i in
       let a : HasType s (childA s p) (t .0) = rw f (t .1) in
-      let g = groupable-told (t .0) (t .0) (grouped pass (groupable (t .0) (t .0)) (pass .sequences p) (λ f. record { clash = repeat-not-groupable (t .0) e a f; outside = out })) in
+      let g = groupable-told (t .0) (t .0) (grouped pass (groupable (t .0) (t .0)) (pass .sequences p)
+      (λ f. record { clash = repeat-not-groupable (t .0) e a f; outside = out })) in
       (t .0, t .1, low (t .0) (g .0))
     where
       low : (c : ℕ) → (simpleType ≤ c → c < complexType) → c < simpleType

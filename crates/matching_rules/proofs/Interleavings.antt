@@ -62,12 +62,14 @@ kept-shuffle P (left x s) = added-left (P x) x (kept-shuffle P s)
 kept-shuffle P (right x s) = swap (added-left (P x) x (swap (kept-shuffle P s)))
 
 -- a run interleaves the runs of the two parts of its positions
-pub run-shuffle : (it : ℕ → Item) (K Q : ℕ → Bool) (i n : ℕ) → Shuffle (run it K i n) (run it (K ∩ Q) i n) (run it (K ∖ Q) i n)
+pub run-shuffle : (it : ℕ → Item) (K Q : ℕ → Bool) (i n : ℕ)
+    → Shuffle (run it K i n) (run it (K ∩ Q) i n) (run it (K ∖ Q) i n)
 unfolding run
 run-shuffle it K Q i zero = done
 run-shuffle it K Q i (suc n) = go (K i) (Q i) (run-shuffle it K Q (suc i) n)
   where
-    go : (b c : Bool) {m l r : List Item} → Shuffle m l r → Shuffle (added b (it i) m) (added (b && c) (it i) l) (added (b && not c) (it i) r)
+    go : (b c : Bool) {m l r : List Item} → Shuffle m l r
+        → Shuffle (added b (it i) m) (added (b && c) (it i) l) (added (b && not c) (it i) r)
     go true true s = left (it i) s
     go true false s = right (it i) s
     go false c s = s
@@ -77,19 +79,25 @@ module _ (it : ℕ → Item) (K Q : ℕ → Bool) where
   abbrev Told : Bool → List Item → Type 0
   Told b m = (k : ℕ) → K k ≡ true → Among (it k) m → Q k ≡ b
 
-  first-run : (i n : ℕ) {l r : List Item} → Shuffle (run it K i n) l r → Told true l → Told false r → run it (K ∩ Q) i n ≡ l
+  first-run : (i n : ℕ) {l r : List Item} → Shuffle (run it K i n) l r
+      → Told true l → Told false r → run it (K ∩ Q) i n ≡ l
   unfolding run
   first-run i zero done f g = refl
   first-run i (suc n) {l} {r} s f g = go (K i) refl s f g (λ l r s f g. first-run (suc i) n {l = l} {r = r} s f g)
     where
-      go : (b : Bool) → K i ≡ b → {l r : List Item} → Shuffle (added b (it i) (run it K (suc i) n)) l r → Told true l → Told false r
-          → ((l r : List Item) → Shuffle (run it K (suc i) n) l r → Told true l → Told false r → run it (K ∩ Q) (suc i) n ≡ l) → added (b && Q i) (it i) (run it (K ∩ Q) (suc i) n) ≡ l
+      go : (b : Bool) → K i ≡ b → {l r : List Item}
+          → Shuffle (added b (it i) (run it K (suc i) n)) l r → Told true l → Told false r
+          → ((l r : List Item) → Shuffle (run it K (suc i) n) l r → Told true l → Told false r
+          → run it (K ∩ Q) (suc i) n ≡ l) → added (b && Q i) (it i) (run it (K ∩ Q) (suc i) n) ≡ l
       go false e {l} {r} s f g rest = rest l r s f g
-      go true e (left {l = l} {r = r} x s) f g rest = rw (f i e (first refl)) (ap (λ (t : List Item). it i ∷ t) (rest l r s (λ k h a. f k h (later a)) g))
+      go true e (left {l = l} {r = r} x s) f g rest =
+          rw (f i e (first refl)) (ap (λ (t : List Item). it i ∷ t) (rest l r s (λ k h a. f k h (later a)) g))
       go true e (right {l = l} {r = r} x s) f g rest = rw (g i e (first refl)) (rest l r s f (λ k h a. g k h (later a)))
 
 pub shuffle-run : (it : ℕ → Item) (K Q : ℕ → Bool) (i n : ℕ) {l r : List Item} → Shuffle (run it K i n) l r
     → ((k : ℕ) → K k ≡ true → Among (it k) l → Q k ≡ true) → ((k : ℕ) → K k ≡ true → Among (it k) r → Q k ≡ false)
     → (run it (K ∩ Q) i n ≡ l) × (run it (K ∖ Q) i n ≡ r)
-shuffle-run it K Q i n s f g =
-    (first-run it K Q i n s f g, first-run it K (λ k. not (Q k)) i n (swap s) (λ k h a. ap not (g k h a)) (λ k h a. ap not (f k h a)))
+shuffle-run it K Q i n s f g = (
+  first-run it K Q i n s f g,
+  first-run it K (λ k. not (Q k)) i n (swap s) (λ k h a. ap not (g k h a)) (λ k h a. ap not (f k h a)),
+)

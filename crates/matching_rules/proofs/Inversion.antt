@@ -9,7 +9,9 @@ use Rattle.schema.specs.Views.{Pattern}
 use Rattle.schema.specs.Views as pattern
 use Rattle.matching_rules.specs.Items.{Item, string, Attributes, noAttributes, only, _∪_, Lookups}
 use Rattle.matching_rules.specs.Items as item
-use Rattle.matching_rules.specs.Rules.{Interleaves, Ws, ws-empty, ws-string, Match, WeakMatch, choice-1, choice-2, group, empty, text-1, text-2, oneOrMore-1, oneOrMore-2, interleave, attribute, element, value, data-1, data-2, list}
+use Rattle.matching_rules.specs.Rules.{Interleaves, Ws, ws-empty, ws-string, Match, WeakMatch, choice-1}
+use Rattle.matching_rules.specs.Rules.{choice-2, group, empty, text-1, text-2, oneOrMore-1, oneOrMore-2}
+use Rattle.matching_rules.specs.Rules.{interleave, attribute, element, value, data-1, data-2, list}
 use Rattle.matching_rules.specs.Reach.{Role, oneString, roleOf, simple}
 use Rattle.matching_rules.specs.Spans.{Paired}
 use Rattle.matching_rules.proofs.Sequences.{hasElement, strings-append}
@@ -29,7 +31,8 @@ no-role : {r : Role} → r ≡ oneString → simple r ≡ false → ⊥
 no-role e f = true≢false (sym (ap simple e) ∙ f)
 
 module _ (L : Lookups) (NotMatch : List ℕ → ℕ → Type 0) where
-  pub cast : {a b : Attributes} {m n : List Item} {x : Pattern} → a ≡ b → m ≡ n → Match L NotMatch a m x → Match L NotMatch b n x
+  pub cast : {a b : Attributes} {m n : List Item} {x : Pattern}
+      → a ≡ b → m ≡ n → Match L NotMatch a m x → Match L NotMatch b n x
   cast e f d = rw (← e, ← f) d
 
   pub record Grouped (a : Attributes) (m : List Item) (x₁ x₂ : Pattern) : Type 0 where
@@ -77,7 +80,8 @@ module _ (L : Lookups) (NotMatch : List ℕ → ℕ → Type 0) where
   Step (pattern.dataAll t) a m = (a ≡ noAttributes) × One (λ s. Unit {0}) m
   Step (pattern.dataExcept t p) a m = (a ≡ noAttributes) × One (λ s. NotMatch s p) m
   Step (pattern.value t k) a m = (a ≡ noAttributes) × One (λ s. L .Equal t s (L .text k)) m
-  Step (pattern.list p) a m = (a ≡ noAttributes) × One (λ s. Match L NotMatch noAttributes (map string (L .split s)) (L .pattern p)) m
+  Step (pattern.list p) a m =
+      (a ≡ noAttributes) × One (λ s. Match L NotMatch noAttributes (map string (L .split s)) (L .pattern p)) m
   Step (pattern.attribute nc p) a m = AttributeMatch a m nc (L .pattern p)
   Step (pattern.ref d) a m = ElementMatch a m d
   Step (pattern.oneOrMore p) a m = Match L NotMatch a m (pattern.oneOrMore p)
@@ -98,13 +102,23 @@ module _ (L : Lookups) (NotMatch : List ℕ → ℕ → Type 0) where
   step (interleave d₁ d₂ w) = record { a₁ = _; a₂ = _; m₁ = _; m₂ = _; set = refl; first = d₁; second = d₂; order = w }
   step (attribute x n w) = record { row = x; set = refl; sequence = refl; named = n; valued = w }
   step (element e f o n w b a) =
-      record { row = e; ws₁ = _; ws₂ = _; set = refl; sequence = refl; paired = record { defined = f; ordered = o; named = n; content = w }; before = b; after = a }
+      record {
+        row = e;
+        ws₁ = _;
+        ws₂ = _;
+        set = refl;
+        sequence = refl;
+        paired = record { defined = f; ordered = o; named = n; content = w };
+        before = b;
+        after = a;
+      }
   step (value h) = (refl, (_, refl, h))
   step data-1 = (refl, (_, refl, tt))
   step (data-2 h) = (refl, (_, refl, h))
   step (list d) = (refl, (_, refl, d))
 
-  texts : (n m : List Item) → Match L NotMatch noAttributes n pattern.text → hasElement m ≡ false → Match L NotMatch noAttributes (n ++ m) pattern.text
+  texts : (n m : List Item) → Match L NotMatch noAttributes n pattern.text
+      → hasElement m ≡ false → Match L NotMatch noAttributes (n ++ m) pattern.text
   texts n [] d h = rw append-nil d
   texts n (string s ∷ m) d h = rw append-snoc at (texts (n ++ (string s ∷ [])) m (text-2 s d) h)
   texts n (item.element e ∷ m) d h = absurd (true≢false h)
@@ -117,10 +131,12 @@ module _ (L : Lookups) (NotMatch : List ℕ → ℕ → Type 0) where
   unstep (pattern.dataExcept t p) s = cast (sym (s .0)) (sym (s .1 .1)) (data-2 (s .1 .2))
   unstep (pattern.value t k) s = cast (sym (s .0)) (sym (s .1 .1)) (value (s .1 .2))
   unstep (pattern.list p) s = cast (sym (s .0)) (sym (s .1 .1)) (list (s .1 .2))
-  unstep (pattern.attribute nc p) s = cast (sym (s .set)) (sym (s .sequence)) (attribute (s .row) (s .named) (s .valued))
+  unstep (pattern.attribute nc p) s =
+      cast (sym (s .set)) (sym (s .sequence)) (attribute (s .row) (s .named) (s .valued))
   unstep (pattern.ref d) s =
       let p = s .paired in
-      cast (sym (s .set)) (sym (s .sequence)) (element (s .row) (p .defined) (p .ordered) (p .named) (p .content) (s .before) (s .after))
+      cast (sym (s .set)) (sym (s .sequence))
+      (element (s .row) (p .defined) (p .ordered) (p .named) (p .content) (s .before) (s .after))
   unstep (pattern.oneOrMore p) s = s
   unstep (pattern.choice p₁ p₂) (inl d) = choice-1 d
   unstep (pattern.choice p₁ p₂) (inr d) = choice-2 d
@@ -132,19 +148,24 @@ module _ (L : Lookups) (NotMatch : List ℕ → ℕ → Type 0) where
   stepwise x = (step, unstep x)
 
   -- a pattern of one string matches no attributes and that string alone
-  one-string : {a : Attributes} {m : List Item} (x : Pattern) (P : List ℕ → Type 0) → Match L NotMatch a m x ↔ ((a ≡ noAttributes) × One P m) → ((s : List ℕ) → Match L NotMatch noAttributes (string s ∷ []) x ↔ P s)
+  one-string : {a : Attributes} {m : List Item} (x : Pattern) (P : List ℕ → Type 0) → Match L NotMatch a m x
+      ↔ ((a ≡ noAttributes) × One P m) → ((s : List ℕ) → Match L NotMatch noAttributes (string s ∷ []) x ↔ P s)
       → Match L NotMatch a m x ↔ ((a ≡ noAttributes) × One (λ s. Match L NotMatch noAttributes (string s ∷ []) x) m)
   one-string x P f g = (
     λ d. let t = f .0 d in (t .0, (t .1 .0, t .1 .1, g (t .1 .0) .1 (t .1 .2))),
     λ t. f .1 (t .0, (t .1 .0, t .1 .1, g (t .1 .0) .0 (t .1 .2))),
   )
 
-  pub string-alone : {a : Attributes} {m : List Item} (x : Pattern) → roleOf x ≡ oneString → Match L NotMatch a m x ↔ ((a ≡ noAttributes) × One (λ s. Match L NotMatch noAttributes (string s ∷ []) x) m)
-  string-alone (pattern.dataAll t) e = one-string (pattern.dataAll t) (λ s. Unit {0}) (stepwise (pattern.dataAll t)) (λ s. (λ d. tt, λ u. data-1))
+  pub string-alone : {a : Attributes} {m : List Item} (x : Pattern) → roleOf x ≡ oneString
+      → Match L NotMatch a m x ↔ ((a ≡ noAttributes) × One (λ s. Match L NotMatch noAttributes (string s ∷ []) x) m)
+  string-alone (pattern.dataAll t) e =
+      one-string (pattern.dataAll t) (λ s. Unit {0}) (stepwise (pattern.dataAll t)) (λ s. (λ d. tt, λ u. data-1))
   string-alone (pattern.dataExcept t p) e =
-      one-string (pattern.dataExcept t p) (λ s. NotMatch s p) (stepwise (pattern.dataExcept t p)) (λ s. (λ d. the-one (λ s. NotMatch s p) s (step d .1), data-2))
+      one-string (pattern.dataExcept t p) (λ s. NotMatch s p) (stepwise (pattern.dataExcept t p))
+      (λ s. (λ d. the-one (λ s. NotMatch s p) s (step d .1), data-2))
   string-alone (pattern.value t k) e =
-      one-string (pattern.value t k) (λ s. L .Equal t s (L .text k)) (stepwise (pattern.value t k)) (λ s. (λ d. the-one (λ s. L .Equal t s (L .text k)) s (step d .1), value))
+      one-string (pattern.value t k) (λ s. L .Equal t s (L .text k)) (stepwise (pattern.value t k))
+      (λ s. (λ d. the-one (λ s. L .Equal t s (L .text k)) s (step d .1), value))
   string-alone (pattern.list p) e =
       let P : List ℕ → Type 0 = (λ s. Match L NotMatch noAttributes (map string (L .split s)) (L .pattern p)) in
       one-string (pattern.list p) P (stepwise (pattern.list p)) (λ s. (λ d. the-one P s (step d .1), list))

@@ -8,8 +8,13 @@ use Rattle.schema.specs.Kinds as kind
 use Rattle.schema.specs.Views.{Pattern}
 use Rattle.schema_places.specs.Paths as path
 use Rattle.matching_rules.specs.Items.{Lookups}
-use Rattle.matching_rules.specs.Reach.{Role, strings, oneString, anAttribute, anElement, sharing, another, roleOf, shares, simple, stringBy, attributeBy, elementBy, isSharing, isSimple, takesString, namesAttribute, namesElement}
-use Rattle.matching_rules.proofs.RowPatterns.{Makes, makes-empty, makes-notAllowed, makes-text, makes-data, makes-except, makes-value, makes-list, makes-attribute, makes-ref, makes-oneOrMore, makes-choice, makes-group, makes-interleave, makes-none}
+use Rattle.matching_rules.specs.Reach.{Role, strings, oneString, anAttribute, anElement, sharing}
+use Rattle.matching_rules.specs.Reach.{another, roleOf, shares, simple, stringBy, attributeBy, elementBy}
+use Rattle.matching_rules.specs.Reach.{isSharing, isSimple, takesString, namesAttribute, namesElement}
+use Rattle.matching_rules.proofs.RowPatterns.{Makes, makes-empty, makes-notAllowed, makes-text}
+use Rattle.matching_rules.proofs.RowPatterns.{makes-data, makes-except, makes-value, makes-list}
+use Rattle.matching_rules.proofs.RowPatterns.{makes-attribute, makes-ref, makes-oneOrMore}
+use Rattle.matching_rules.proofs.RowPatterns.{makes-choice, makes-group, makes-interleave, makes-none}
 
 -- kind k and field a of a row whose pattern has a role
 pub data HasRole (k a : ℕ) : Role → Type 0 where
@@ -37,7 +42,8 @@ has-role (makes-interleave e) = role-sharing (rw e)
 has-role (makes-none n) = role-another
 
 module _ (L : Lookups) {k a : ℕ} (u : ℕ) where
-  attribute-role : {r : Role} → HasRole k a r → attributeBy L u r ≡ true → (k ≡ kind.attribute) × (L .inClass a u ≡ true)
+  attribute-role : {r : Role} → HasRole k a r → attributeBy L u r ≡ true
+      → (k ≡ kind.attribute) × (L .inClass a u ≡ true)
   attribute-role (role-strings e) h = absurd (false≢true h)
   attribute-role (role-string e) h = absurd (false≢true h)
   attribute-role (role-attribute e) h = (e, h)
@@ -45,7 +51,8 @@ module _ (L : Lookups) {k a : ℕ} (u : ℕ) where
   attribute-role (role-sharing e) h = absurd (false≢true h)
   attribute-role role-another h = absurd (false≢true h)
 
-  element-role : {r : Role} → HasRole k a r → elementBy L u r ≡ true → (k ≡ kind.ref) × ((L .isDefinition a && L .inClass (L .nameClass a) u) ≡ true)
+  element-role : {r : Role} → HasRole k a r → elementBy L u r ≡ true
+      → (k ≡ kind.ref) × ((L .isDefinition a && L .inClass (L .nameClass a) u) ≡ true)
   element-role (role-strings e) h = absurd (false≢true h)
   element-role (role-string e) h = absurd (false≢true h)
   element-role (role-attribute e) h = absurd (false≢true h)
@@ -57,7 +64,8 @@ module _ (L : Lookups) {k a : ℕ} (u : ℕ) where
     pub attribute-made : namesAttribute L u x ≡ true → (k ≡ kind.attribute) × (L .inClass a u ≡ true)
     attribute-made h = attribute-role (has-role m) h
 
-    pub ref-made : namesElement L u x ≡ true → (k ≡ kind.ref) × ((L .isDefinition a && L .inClass (L .nameClass a) u) ≡ true)
+    pub ref-made : namesElement L u x ≡ true
+        → (k ≡ kind.ref) × ((L .isDefinition a && L .inClass (L .nameClass a) u) ≡ true)
     ref-made h = element-role (has-role m) h
 
 sharing-role : {k a : ℕ} {r : Role} → HasRole k a r → shares r ≡ true → path.sharingKind k ≡ true
@@ -80,5 +88,6 @@ string-role (role-element e) h = absurd (false≢true h)
 string-role (role-sharing e) h = absurd (false≢true h)
 string-role role-another h = absurd (false≢true h)
 
-pub string-kind : {k a b : ℕ} {x : Pattern} → Makes k a b x → takesString x ≡ true → (k ≡ kind.text) ⊎ (isSimple x ≡ true)
+pub string-kind : {k a b : ℕ} {x : Pattern} → Makes k a b x
+    → takesString x ≡ true → (k ≡ kind.text) ⊎ (isSimple x ≡ true)
 string-kind m h = string-role (has-role m) h

@@ -26,10 +26,14 @@ use Rattle.schema_restrictions.proofs.Outside.{whole-outside, child-outside}
 use Rattle.schema_restrictions.proofs.Passes as passes
 use Rattle.matching_rules.specs.Items.{Item, element, string, Lookups}
 use Rattle.matching_rules.specs.Job.{lookups}
-use Rattle.matching_rules.specs.Reach.{Subpattern, operand, Reaches, isSimple, takesAny, takesString, namesAttribute, namesElement, takes, repeated}
+use Rattle.matching_rules.specs.Reach.{Subpattern, operand, Reaches, isSimple, takesAny}
+use Rattle.matching_rules.specs.Reach.{takesString, namesAttribute, namesElement, takes, repeated}
 use Rattle.matching_rules.specs.Restricted.{Flat, NamesApart, Sequenced, Sequential, Restricted}
-use Rattle.matching_rules.proofs.RowPatterns.{row-makes, from-oneOrMore, from-interleave, has-kind, Sides, group-sides, interleave-sides, repeated-sides, part-child, reached-row, inside-row, occurs-below, child-below}
-use Rattle.matching_rules.proofs.ContentTypes.{leastType, occurs-least, simple-least, any-least, Grouped, sides-grouped, repeated-type}
+use Rattle.matching_rules.proofs.RowPatterns.{row-makes, from-oneOrMore, from-interleave, has-kind, Sides}
+use Rattle.matching_rules.proofs.RowPatterns.{group-sides, interleave-sides, repeated-sides, part-child}
+use Rattle.matching_rules.proofs.RowPatterns.{reached-row, inside-row, occurs-below, child-below}
+use Rattle.matching_rules.proofs.ContentTypes.{leastType, occurs-least, simple-least, any-least}
+use Rattle.matching_rules.proofs.ContentTypes.{Grouped, sides-grouped, repeated-type}
 use Rattle.matching_rules.proofs.KindTests.{attribute-made, ref-made, sharing-made, string-kind}
 use Rattle.matching_rules.proofs.Paths.{excepts-plain, lists-listable}
 
@@ -44,19 +48,28 @@ module _ {strings : ℕ} (J : Tables) (pass : SchemaPasses strings (J .schema)) 
   L = lookups J
 
   -- the class of an attribute, and that of the definition that a ref names, are children
-  attribute-class : (x u : ℕ) → namesAttribute L u (patternOf s x) ≡ true → (kindOf s x ≡ kind.attribute) × (inClass s (node.aOf t u) (node.bOf t u) (childA s x) ≡ true)
+  attribute-class : (x u : ℕ) → namesAttribute L u (patternOf s x) ≡ true
+      → (kindOf s x ≡ kind.attribute) × (inClass s (node.aOf t u) (node.bOf t u) (childA s x) ≡ true)
   unfolding shapeOf
   attribute-class x u h =
-      let m = attribute-made L u (row-makes s x refl) h in
-      (m .0, rw (class-a strings s (pass .rows) x (has-kind (pass .rows) (m .0) (λ z. omega arith)) kind.attribute (m .0) refl) (m .1))
+      let m = attribute-made L u (row-makes s x refl) h in (
+        m .0,
+        rw (class-a strings s (pass .rows) x (has-kind (pass .rows) (m .0) (λ z. omega arith))
+            kind.attribute (m .0) refl) (m .1),
+      )
 
-  ref-class : (x u : ℕ) → namesElement L u (patternOf s x) ≡ true → (kindOf s x ≡ kind.ref) × (inClass s (node.aOf t u) (node.bOf t u) (classReferred s x) ≡ true)
+  ref-class : (x u : ℕ) → namesElement L u (patternOf s x) ≡ true
+      → (kindOf s x ≡ kind.ref) × (inClass s (node.aOf t u) (node.bOf t u) (classReferred s x) ≡ true)
   unfolding shapeOf
   ref-class x u h =
       let m = ref-made L u (row-makes s x refl) h in
-      let i = and-both (isElement (sortOf s (aOf s x))) (inClass s (node.aOf t u) (node.bOf t u) (aOf s (aOf s x))) (m .1) in
-      let k = definition-kind s (aOf s x) (i .0) in
-      (m .0, rw (class-a strings s (pass .rows) (aOf s x) (has-kind (pass .rows) k (λ z. omega arith)) kind.element k refl) (i .1))
+      let i = and-both (isElement (sortOf s (aOf s x)))
+      (inClass s (node.aOf t u) (node.bOf t u) (aOf s (aOf s x))) (m .1) in
+      let k = definition-kind s (aOf s x) (i .0) in (
+        m .0,
+        rw (class-a strings s (pass .rows) (aOf s x) (has-kind (pass .rows) k (λ z. omega arith)) kind.element k refl)
+            (i .1),
+      )
 
   -- what a pattern reaches shows in its content type
   simple-type : {p c : ℕ} → HasType s p c → Reaches L isSimple (patternOf s p) → simpleType ≤ c
@@ -76,15 +89,18 @@ module _ {strings : ℕ} (J : Tables) (pass : SchemaPasses strings (J .schema)) 
       let y = reached-row J (pass .rows) p₂ i in
       let a = attribute-class (x .0) u (x .2) in
       let b = attribute-class (y .0) u (y .2) in
-      attributes-apart pass p (x .0) (y .0) (node.aOf t u) (node.bOf t u) (sides .is-sharing) (rw (sides .first) (x .1)) (a .0) (rw (sides .second) (y .1)) (b .0) (a .1) (b .1)
+      attributes-apart pass p (x .0) (y .0) (node.aOf t u) (node.bOf t u) (sides .is-sharing)
+      (rw (sides .first) (x .1)) (a .0) (rw (sides .second) (y .1)) (b .0) (a .1) (b .1)
 
   -- 10.3 of a row that is below no list
   sequenced : {p p₁ p₂ : ℕ} → ¬ InList s p → Sides s p p₁ p₂ → Sequenced L p₁ p₂
   sequenced {p} {p₁} {p₂} out sides =
       let grouped = sides-grouped pass p out p₁ p₂ sides in
       record {
-        first = λ h i. let f = grouped .before (simple-type (grouped .first-type) h) in omega (arith, any-type (grouped .second-type) i);
-        second = λ h i. let f = grouped .after (simple-type (grouped .second-type) h) in omega (arith, any-type (grouped .first-type) i);
+        first = λ h i. let f = grouped .before (simple-type (grouped .first-type) h) in
+            omega (arith, any-type (grouped .second-type) i);
+        second = λ h i. let f = grouped .after (simple-type (grouped .second-type) h) in
+            omega (arith, any-type (grouped .first-type) i);
       }
 
   -- an interleave stands in no list
@@ -96,7 +112,9 @@ module _ {strings : ℕ} (J : Tables) (pass : SchemaPasses strings (J .schema)) 
   TextOrSimple x = (kindOf s x ≡ kind.text) ⊎ (simpleType ≤ leastType (kindOf s x))
 
   text-or-simple : (x : ℕ) → takesString (patternOf s x) ≡ true → TextOrSimple x
-  text-or-simple x h = ⊎-elim (λ e. inl e) (λ e. inr (simple-least (patternOf s x) (row-makes s x refl) e)) (string-kind (row-makes s x refl) h)
+  text-or-simple x h =
+      ⊎-elim (λ e. inl e) (λ e. inr (simple-least (patternOf s x) (row-makes s x refl) e))
+      (string-kind (row-makes s x refl) h)
 
   complex-at-least : (x : ℕ) → TextOrSimple x → complexType ≤ leastType (kindOf s x)
   complex-at-least x (inl e) = rw e (omega arith)
@@ -104,7 +122,8 @@ module _ {strings : ℕ} (J : Tables) (pass : SchemaPasses strings (J .schema)) 
 
   -- strings go to one side of an interleave: data, value or list on one side leaves the other without items (10.3), and
   -- text stands on one side only (10.5)
-  strings-apart : {p p₁ p₂ : ℕ} → kindOf s p ≡ kind.interleave → Sides s p p₁ p₂ → Reaches L takesString (patternOf s p₁) → ¬ Reaches L takesString (patternOf s p₂)
+  strings-apart : {p p₁ p₂ : ℕ} → kindOf s p ≡ kind.interleave → Sides s p p₁ p₂
+      → Reaches L takesString (patternOf s p₁) → ¬ Reaches L takesString (patternOf s p₂)
   strings-apart {p} {p₁} {p₂} e sides h i = go (text-or-simple (x .0) (x .2)) (text-or-simple (y .0) (y .2))
     where
       x : (r : ℕ) × Occurs s r p₁ × (takesString (patternOf s r) ≡ true)
@@ -128,13 +147,15 @@ module _ {strings : ℕ} (J : Tables) (pass : SchemaPasses strings (J .schema)) 
       go (inl a) (inr b) = omega (arith, grouped .after (omega (arith, high)), complex-at-least (x .0) (inl a), low)
 
   -- an item goes to one side of an interleave (10.5)
-  items-apart : {p p₁ p₂ : ℕ} → kindOf s p ≡ kind.interleave → Sides s p p₁ p₂ → (y : Item) → Reaches L (takes L y) (patternOf s p₁) → ¬ Reaches L (takes L y) (patternOf s p₂)
+  items-apart : {p p₁ p₂ : ℕ} → kindOf s p ≡ kind.interleave → Sides s p p₁ p₂ → (y : Item)
+      → Reaches L (takes L y) (patternOf s p₁) → ¬ Reaches L (takes L y) (patternOf s p₂)
   items-apart {p} {p₁} {p₂} e sides (element u) h i =
       let x = reached-row J (pass .rows) p₁ h in
       let y = reached-row J (pass .rows) p₂ i in
       let a = ref-class (x .0) u (x .2) in
       let b = ref-class (y .0) u (y .2) in
-      elements-apart pass p (x .0) (y .0) (node.aOf t u) (node.bOf t u) e (rw (sides .first) (x .1)) (a .0) (rw (sides .second) (y .1)) (b .0) (a .1) (b .1)
+      elements-apart pass p (x .0) (y .0) (node.aOf t u) (node.bOf t u) e
+      (rw (sides .first) (x .1)) (a .0) (rw (sides .second) (y .1)) (b .0) (a .1) (b .1)
   items-apart e sides (string m) h i = strings-apart e sides h i
 
   -- no attribute stands in a group or interleave that is repeated (10.2.3)
@@ -146,7 +167,8 @@ module _ {strings : ℕ} (J : Tables) (pass : SchemaPasses strings (J .schema)) 
       let g = sharing-made (row-makes s (x .0) (x .2)) pair in
       let z = reached-row J (pass .rows) (x .0) (subst (Reaches L (namesAttribute L u)) (sym (x .2)) h) in
       let a = attribute-class (z .0) u (z .2) in
-      passes.repeats-flat pass (z .0) (x .0) p (m .0) (child-below d (x .1)) g (⊎-elim (λ f. absurd (itself (x .0) (z .0) f g (a .0))) (λ b. b) (occurs-below (z .1))) (a .0)
+      passes.repeats-flat pass (z .0) (x .0) p (m .0) (child-below d (x .1)) g
+      (⊎-elim (λ f. absurd (itself (x .0) (z .0) f g (a .0))) (λ b. b) (occurs-below (z .1))) (a .0)
     where
       itself : (x z : ℕ) → z ≡ x → path.sharingKind (kindOf s x) ≡ true → kindOf s z ≡ kind.attribute → ⊥
       itself x z f g a = false≢true (sym (ap path.sharingKind (ap (kindOf s) (sym f) ∙ a)) ∙ g)
@@ -162,13 +184,16 @@ module _ {strings : ℕ} (J : Tables) (pass : SchemaPasses strings (J .schema)) 
   -- what occurs in a row that is below no list is below none
   occurs-outside : {p r : ℕ} → ¬ InList s p → Occurs s r p → ¬ InList s r
   occurs-outside out itself = out
-  occurs-outside out (within k c o) = occurs-outside (child-outside (pass .rows) c (λ e. false≢true (sym (ap connective e) ∙ k)) out) o
+  occurs-outside out (within k c o) =
+      occurs-outside (child-outside (pass .rows) c (λ e. false≢true (sym (ap connective e) ∙ k)) out) o
 
   sequential : (d : ℕ) → isElement (sortOf s d) ≡ true → Sequential L (patternOf s (bOf s d))
   unfolding shapeOf
   sequential d i = record {
-    groups = λ p₁ p₂ w. let r = inside-row J (pass .rows) (bOf s d) w in sequenced (out (r .1)) (group-sides (pass .rows) (r .0) (r .2));
-    interleaves = λ p₁ p₂ w. let r = inside-row J (pass .rows) (bOf s d) w in sequenced (out (r .1)) (interleave-sides (pass .rows) (r .0) (r .2));
+    groups = λ p₁ p₂ w. let r = inside-row J (pass .rows) (bOf s d) w in
+        sequenced (out (r .1)) (group-sides (pass .rows) (r .0) (r .2));
+    interleaves = λ p₁ p₂ w. let r = inside-row J (pass .rows) (bOf s d) w in
+        sequenced (out (r .1)) (interleave-sides (pass .rows) (r .0) (r .2));
     repeats = λ q w. let r = inside-row J (pass .rows) (bOf s d) w in not-simple (r .0) q (out (r .1)) (r .2);
   }
     where
@@ -176,10 +201,14 @@ module _ {strings : ℕ} (J : Tables) (pass : SchemaPasses strings (J .schema)) 
       k = definition-kind s d i
 
       content : Child s (bOf s d) d
-      content = by-b (pattern-b strings s (pass .rows) d (has-kind (pass .rows) k (λ z. omega arith)) kind.element k refl .0) refl
+      content =
+          by-b (pattern-b strings s (pass .rows) d (has-kind (pass .rows) k (λ z. omega arith)) kind.element k refl .0)
+          refl
 
       out : {r : ℕ} → Occurs s r (bOf s d) → ¬ InList s r
-      out o = occurs-outside (child-outside (pass .rows) content (λ e. omega (arith, k)) (λ h. whole-outside (rw k refl) (h .below))) o
+      out o =
+          occurs-outside (child-outside (pass .rows) content
+          (λ e. omega (arith, k)) (λ h. whole-outside (rw k refl) (h .below))) o
 
   -- past the table there is no pattern
   past : (p : ℕ) → rowsOf s ≤ p → patternOf s p ≡ noPattern

@@ -13,13 +13,18 @@ use Rattle.schema.specs.Kinds as kind
 use Rattle.schema.specs.Rows.{rowsOf, kindOf, aOf, bOf, shapeOf, sortOf, isPattern, childA, childB}
 use Rattle.schema.specs.RowRule.{RowsRight}
 use Rattle.schema.specs.Relations.{Child, by-a, by-b, Below, child, deeper, connective, Occurs, itself, within}
-use Rattle.schema.specs.Views.{Pattern, patternBy, patternOf, empty, notAllowed, text, dataAll, dataExcept, value, list, attribute, ref, oneOrMore, choice, group, interleave, noPattern}
+use Rattle.schema.specs.Views.{Pattern, patternBy, patternOf, empty, notAllowed, text, dataAll, dataExcept}
+use Rattle.schema.specs.Views.{value, list, attribute, ref, oneOrMore, choice, group, interleave, noPattern}
 use Rattle.schema.specs.declared.Field.the-variants.{APattern}
-use Rattle.schema.proofs.Fields.{pattern-a, pattern-b, pattern-or-none, PatternKind, is-empty, is-notAllowed, is-text, is-data, is-value, is-list, is-attribute, is-ref, is-oneOrMore, is-choice, is-group, is-interleave}
+use Rattle.schema.proofs.Fields.{pattern-a, pattern-b, pattern-or-none, PatternKind, is-empty}
+use Rattle.schema.proofs.Fields.{is-notAllowed, is-text, is-data, is-value, is-list, is-attribute}
+use Rattle.schema.proofs.Fields.{is-ref, is-oneOrMore, is-choice, is-group, is-interleave}
 use Rattle.schema.proofs.RowLaws.{right-size, in-table}
 use Rattle.schema_places.specs.Paths.{sharingKind}
 use Rattle.schema_places.specs.Places.{holdsWhole}
-use Rattle.matching_rules.specs.Reach.{Operand, repeated, choice-first, choice-second, group-first, group-second, interleave-first, interleave-second, Subpattern, operand, of-attribute, of-list, of-except, Reaches, here, there, Within, itself, down}
+use Rattle.matching_rules.specs.Reach.{Operand, repeated, choice-first, choice-second, group-first, group-second}
+use Rattle.matching_rules.specs.Reach.{interleave-first, interleave-second, Subpattern, operand, of-attribute}
+use Rattle.matching_rules.specs.Reach.{of-list, of-except, Reaches, here, there, Within, itself, down}
 use Rattle.matching_rules.specs.Job.{lookups}
 
 -- kind k and fields a and b make a pattern
@@ -44,7 +49,10 @@ either P true f g = f refl
 either P false f g = g refl
 
 -- a number that is none of the kinds of patterns
-module _ (k : ℕ) (e₁ : eqb k kind.empty ≡ false) (e₂ : eqb k kind.notAllowed ≡ false) (e₃ : eqb k kind.text ≡ false) (e₄ : eqb k kind.«data» ≡ false) (e₅ : eqb k kind.value ≡ false) (e₆ : eqb k kind.list ≡ false) (e₇ : eqb k kind.attribute ≡ false) (e₈ : eqb k kind.ref ≡ false) (e₉ : eqb k kind.oneOrMore ≡ false) (e₁₀ : eqb k kind.choice ≡ false) (e₁₁ : eqb k kind.group ≡ false) (e₁₂ : eqb k kind.interleave ≡ false) where
+module _ (k : ℕ) (e₁ : eqb k kind.empty ≡ false) (e₂ : eqb k kind.notAllowed ≡ false) (e₃ : eqb k kind.text ≡ false)
+    (e₄ : eqb k kind.«data» ≡ false) (e₅ : eqb k kind.value ≡ false) (e₆ : eqb k kind.list ≡ false)
+    (e₇ : eqb k kind.attribute ≡ false) (e₈ : eqb k kind.ref ≡ false) (e₉ : eqb k kind.oneOrMore ≡ false)
+    (e₁₀ : eqb k kind.choice ≡ false) (e₁₁ : eqb k kind.group ≡ false) (e₁₂ : eqb k kind.interleave ≡ false) where
   no-kind : ¬ PatternKind k
   no-kind (is-empty e) = eqb-false _ _ e₁ e
   no-kind (is-notAllowed e) = eqb-false _ _ e₂ e
@@ -66,7 +74,8 @@ made k a b =
     either P (eqb k kind.empty) (λ e. makes-empty (eqb-true _ _ e)) (λ e₁.
     either P (eqb k kind.notAllowed) (λ e. makes-notAllowed (eqb-true _ _ e)) (λ e₂.
     either P (eqb k kind.text) (λ e. makes-text (eqb-true _ _ e)) (λ e₃.
-    either P (eqb k kind.«data») (λ e. either P (eqb b kind.noRow) (λ f. makes-data (eqb-true _ _ e) (eqb-true _ _ f)) (λ f. makes-except (eqb-true _ _ e) (eqb-false _ _ f))) (λ e₄.
+    either P (eqb k kind.«data») (λ e. either P (eqb b kind.noRow) (λ f. makes-data (eqb-true _ _ e) (eqb-true _ _ f))
+    (λ f. makes-except (eqb-true _ _ e) (eqb-false _ _ f))) (λ e₄.
     either P (eqb k kind.value) (λ e. makes-value (eqb-true _ _ e)) (λ e₅.
     either P (eqb k kind.list) (λ e. makes-list (eqb-true _ _ e)) (λ e₆.
     either P (eqb k kind.attribute) (λ e. makes-attribute (eqb-true _ _ e)) (λ e₇.
@@ -74,7 +83,8 @@ made k a b =
     either P (eqb k kind.oneOrMore) (λ e. makes-oneOrMore (eqb-true _ _ e)) (λ e₉.
     either P (eqb k kind.choice) (λ e. makes-choice (eqb-true _ _ e)) (λ e₁₀.
     either P (eqb k kind.group) (λ e. makes-group (eqb-true _ _ e)) (λ e₁₁.
-    either P (eqb k kind.interleave) (λ e. makes-interleave (eqb-true _ _ e)) (λ e₁₂. makes-none (no-kind k e₁ e₂ e₃ e₄ e₅ e₆ e₇ e₈ e₉ e₁₀ e₁₁ e₁₂)))))))))))))
+    either P (eqb k kind.interleave) (λ e. makes-interleave (eqb-true _ _ e))
+    (λ e₁₂. makes-none (no-kind k e₁ e₂ e₃ e₄ e₅ e₆ e₇ e₈ e₉ e₁₀ e₁₁ e₁₂)))))))))))))
 
 pub row-makes : (s : List ℕ) (p : ℕ) {x : Pattern} → patternOf s p ≡ x → Makes (kindOf s p) (aOf s p) (bOf s p) x
 row-makes s p e = subst (Makes (kindOf s p) (aOf s p) (bOf s p)) e (made (kindOf s p) (aOf s p) (bOf s p))
@@ -134,7 +144,9 @@ module _ {strings : ℕ} {s : List ℕ} (right : RowsRight strings s) where
 
     field-except : kindOf s p ≡ kind.«data» → bOf s p ≢ kind.noRow → Sub (bOf s p)
     unfolding shapeOf
-    field-except e f = ⊎-elim (λ z. absurd (f z)) (λ n. (by-b (n .0) refl, n .1)) (pattern-or-none strings s right p (has-kind e (λ z. omega arith)) kind.«data» e refl)
+    field-except e f =
+        ⊎-elim (λ z. absurd (f z)) (λ n. (by-b (n .0) refl, n .1))
+        (pattern-or-none strings s right p (has-kind e (λ z. omega arith)) kind.«data» e refl)
 
     part-sub : {r : ℕ} {x : Pattern} → Subpattern r x → Makes (kindOf s p) (aOf s p) (bOf s p) x → Sub r
     unfolding shapeOf
@@ -156,7 +168,8 @@ module _ {strings : ℕ} {s : List ℕ} (right : RowsRight strings s) where
     pub part-pattern : {r : ℕ} → Subpattern r (patternOf s p) → isPattern (sortOf s r) ≡ true
     part-pattern i = part-sub i (row-makes s p refl) .1
 
-    sides : {k : ℕ} → kindOf s p ≡ k → k ≢ 0 → sharingKind k ≡ true → holdsWhole k ≡ false → shapeOf k .a ≡ APattern → shapeOf k .b ≡ APattern → Sides s p (aOf s p) (bOf s p)
+    sides : {k : ℕ} → kindOf s p ≡ k → k ≢ 0 → sharingKind k ≡ true → holdsWhole k ≡ false
+        → shapeOf k .a ≡ APattern → shapeOf k .b ≡ APattern → Sides s p (aOf s p) (bOf s p)
     sides {k} e n i w f g =
         let a = pattern-a strings s right p (has-kind e n) k e f in
         let b = pattern-b strings s right p (has-kind e n) k e g in
@@ -173,14 +186,19 @@ module _ {strings : ℕ} {s : List ℕ} (right : RowsRight strings s) where
 
     pub group-sides : {p₁ p₂ : ℕ} → patternOf s p ≡ group p₁ p₂ → Sides s p p₁ p₂
     unfolding shapeOf
-    group-sides e = let m = from-group (row-makes s p e) in rw (m .1, m .2) at (sides (m .0) (λ z. omega arith) refl refl refl refl)
+    group-sides e =
+        let m = from-group (row-makes s p e) in
+        rw (m .1, m .2) at (sides (m .0) (λ z. omega arith) refl refl refl refl)
 
     pub interleave-sides : {p₁ p₂ : ℕ} → patternOf s p ≡ interleave p₁ p₂ → Sides s p p₁ p₂
     unfolding shapeOf
-    interleave-sides e = let m = from-interleave (row-makes s p e) in rw (m .1, m .2) at (sides (m .0) (λ z. omega arith) refl refl refl refl)
+    interleave-sides e =
+        let m = from-interleave (row-makes s p e) in
+        rw (m .1, m .2) at (sides (m .0) (λ z. omega arith) refl refl refl refl)
 
     -- the operand of a oneOrMore
-    pub repeated-sides : {q : ℕ} → patternOf s p ≡ oneOrMore q → (childA s p ≡ q) × Child s q p × (isPattern (sortOf s q) ≡ true)
+    pub repeated-sides : {q : ℕ} → patternOf s p ≡ oneOrMore q
+        → (childA s p ≡ q) × Child s q p × (isPattern (sortOf s q) ≡ true)
     unfolding shapeOf
     repeated-sides e =
         let m = from-oneOrMore (row-makes s p e) in
@@ -202,24 +220,28 @@ module _ {strings : ℕ} {s : List ℕ} (right : RowsRight strings s) where
   operand-occurs {p} i o = within (operand-connective i (row-makes s p refl)) (part-child p (operand i)) o
 
 module _ {strings : ℕ} (J : Tables) (right : RowsRight strings (J .schema)) where
-  reached : {test : Pattern → Bool} {x : Pattern} → Reaches (lookups J) test x → (p : ℕ) → patternOf (J .schema) p ≡ x → (r : ℕ) × Occurs (J .schema) r p × (test (patternOf (J .schema) r) ≡ true)
+  reached : {test : Pattern → Bool} {x : Pattern} → Reaches (lookups J) test x → (p : ℕ)
+      → patternOf (J .schema) p ≡ x → (r : ℕ) × Occurs (J .schema) r p × (test (patternOf (J .schema) r) ≡ true)
   reached {test} (here h) p e = (p, itself, subst (λ (x : Pattern). test x ≡ true) (sym e) h)
   reached (there r i h) p e =
       let o = reached h r refl in
       (o .0, operand-occurs right (subst (Operand r) (sym e) i) (o .1), o .2)
 
   -- a pattern that p reaches is that of a row that occurs in p
-  pub reached-row : {test : Pattern → Bool} (p : ℕ) → Reaches (lookups J) test (patternOf (J .schema) p) → (r : ℕ) × Occurs (J .schema) r p × (test (patternOf (J .schema) r) ≡ true)
+  pub reached-row : {test : Pattern → Bool} (p : ℕ) → Reaches (lookups J) test (patternOf (J .schema) p)
+      → (r : ℕ) × Occurs (J .schema) r p × (test (patternOf (J .schema) r) ≡ true)
   reached-row p h = reached h p refl
 
-  inside : {x y : Pattern} → Within (lookups J) x y → (p : ℕ) → patternOf (J .schema) p ≡ x → (r : ℕ) × Occurs (J .schema) r p × (patternOf (J .schema) r ≡ y)
+  inside : {x y : Pattern} → Within (lookups J) x y → (p : ℕ) → patternOf (J .schema) p ≡ x
+      → (r : ℕ) × Occurs (J .schema) r p × (patternOf (J .schema) r ≡ y)
   inside itself p e = (p, itself, e)
   inside (down r i h) p e =
       let o = inside h r refl in
       (o .0, operand-occurs right (subst (Operand r) (sym e) i) (o .1), o .2)
 
   -- the same of a pattern within another
-  pub inside-row : {y : Pattern} (p : ℕ) → Within (lookups J) (patternOf (J .schema) p) y → (r : ℕ) × Occurs (J .schema) r p × (patternOf (J .schema) r ≡ y)
+  pub inside-row : {y : Pattern} (p : ℕ) → Within (lookups J) (patternOf (J .schema) p) y
+      → (r : ℕ) × Occurs (J .schema) r p × (patternOf (J .schema) r ≡ y)
   inside-row p h = inside h p refl
 
 -- what is a child of p, or below one, is below p

@@ -10,7 +10,9 @@ use Rattle.schema.specs.Views.{Pattern}
 use Rattle.schema.specs.Views as pattern
 use Rattle.matching_rules.specs.Items.{Item, string, Attributes, noAttributes, Lookups}
 use Rattle.matching_rules.specs.Items as item
-use Rattle.matching_rules.specs.Rules.{Interleaves, interleaves-1, interleaves-2, interleaves-3, ws-empty, ws-string, Match, WeakMatch, text-1, text-2, oneOrMore-1, oneOrMore-2, attribute, element, value, data-1, list, weak-match-3}
+use Rattle.matching_rules.specs.Rules.{Interleaves, interleaves-1, interleaves-2, interleaves-3, ws-empty}
+use Rattle.matching_rules.specs.Rules.{ws-string, Match, WeakMatch, text-1, text-2, oneOrMore-1}
+use Rattle.matching_rules.specs.Rules.{oneOrMore-2, attribute, element, value, data-1, list, weak-match-3}
 use Rattle.tables.proofs.Booleans.{or-either}
 use Rattle.matching_rules.specs.Spans.{Paired}
 
@@ -27,7 +29,8 @@ module _ (L : Lookups) (NotMatch : List ℕ → ℕ → Type 0) where
   two-strings s₁ s₂ = text-2 s₂ (text-2 s₁ text-1)
 
   -- whitespace after an element needs no pattern of its own
-  pub whitespace-after : {e d : ℕ} {s : List ℕ} → L .whitespace s ≡ true → Paired L NotMatch e d → Match L NotMatch noAttributes (item.element e ∷ string s ∷ []) (pattern.ref d)
+  pub whitespace-after : {e d : ℕ} {s : List ℕ} → L .whitespace s ≡ true → Paired L NotMatch e d
+      → Match L NotMatch noAttributes (item.element e ∷ string s ∷ []) (pattern.ref d)
   whitespace-after {e} h p = element e (p .defined) (p .ordered) (p .named) (p .content) ws-empty (ws-string h)
 
   -- no children are the empty string to a datatype
@@ -38,20 +41,28 @@ module _ (L : Lookups) (NotMatch : List ℕ → ℕ → Type 0) where
   value-some : {a : Attributes} {m : List Item} {t k : ℕ} → Match L NotMatch a m (pattern.value t k) → m ≢ []
   value-some (value h) e = cons≢nil e
 
-  pub no-tokens : {a : Attributes} {m : List Item} {t k p : ℕ} → L .pattern p ≡ pattern.value t k → Match L NotMatch a m (pattern.list p) → (s : List ℕ) → m ≡ string s ∷ [] → L .split s ≢ []
-  no-tokens f (list {s = u} d) s e z = let same : u ≡ s = cc e in value-some (rw f at d) (ap (map string) (ap (L .split) same ∙ z))
+  pub no-tokens : {a : Attributes} {m : List Item} {t k p : ℕ} → L .pattern p ≡ pattern.value t k
+      → Match L NotMatch a m (pattern.list p) → (s : List ℕ) → m ≡ string s ∷ [] → L .split s ≢ []
+  no-tokens f (list {s = u} d) s e z =
+      let same : u ≡ s = cc e in
+      value-some (rw f at d) (ap (map string) (ap (L .split) same ∙ z))
 
   -- the attributes that a repeated attribute pattern takes have names of their own
-  module _ (q : ℕ) {nc p : ℕ} (repeats : L .pattern q ≡ pattern.attribute nc p) (symmetric : (x y : ℕ) → L .SameName x y → L .SameName y x) where
-    single : {a : Attributes} {m : List Item} {z : Pattern} → z ≡ pattern.attribute nc p → Match L NotMatch a m z → (x y : ℕ) → a x ≡ true → a y ≡ true → x ≡ y
+  module _ (q : ℕ) {nc p : ℕ} (repeats : L .pattern q ≡ pattern.attribute nc p)
+      (symmetric : (x y : ℕ) → L .SameName x y → L .SameName y x) where
+    single : {a : Attributes} {m : List Item} {z : Pattern} → z ≡ pattern.attribute nc p
+        → Match L NotMatch a m z → (x y : ℕ) → a x ≡ true → a y ≡ true → x ≡ y
     single e d x y h k = one (rw e at d) h k
       where
-        one : {a : Attributes} {m : List Item} → Match L NotMatch a m (pattern.attribute nc p) → a x ≡ true → a y ≡ true → x ≡ y
+        one : {a : Attributes} {m : List Item}
+            → Match L NotMatch a m (pattern.attribute nc p) → a x ≡ true → a y ≡ true → x ≡ y
         one (attribute r n w) h k = sym (eqb-true r x h) ∙ eqb-true r y k
 
-    pub repeated-names : {a : Attributes} {m : List Item} → Match L NotMatch a m (pattern.oneOrMore q) → (x y : ℕ) → a x ≡ true → a y ≡ true → L .SameName x y → x ≡ y
+    pub repeated-names : {a : Attributes} {m : List Item} → Match L NotMatch a m (pattern.oneOrMore q)
+        → (x y : ℕ) → a x ≡ true → a y ≡ true → L .SameName x y → x ≡ y
     repeated-names (oneOrMore-1 d) x y h k same = single repeats d x y h k
-    repeated-names (oneOrMore-2 {a₁ = a₁} {a₂ = a₂} d₁ d₂ z) x y h k same = go (or-either (a₁ x) (a₂ x) h) (or-either (a₁ y) (a₂ y) k) (λ i j. repeated-names d₂ x y i j same)
+    repeated-names (oneOrMore-2 {a₁ = a₁} {a₂ = a₂} d₁ d₂ z) x y h k same =
+        go (or-either (a₁ x) (a₂ x) h) (or-either (a₁ y) (a₂ y) k) (λ i j. repeated-names d₂ x y i j same)
       where
         go : (a₁ x ≡ true) ⊎ (a₂ x ≡ true) → (a₁ y ≡ true) ⊎ (a₂ y ≡ true) → (a₂ x ≡ true → a₂ y ≡ true → x ≡ y) → x ≡ y
         go (inl i) (inl j) rest = single repeats d₁ x y i j

@@ -29,7 +29,8 @@ module _ {A : Type 0} where
   run-add it K i (suc n) k = rw (suc-add, add-suc, run-add it K (suc i) n k, suc-add) (added-append (K i) (it i) _ _)
 
   -- runs between positions join
-  pub run-join : (it : ℕ → A) (K : ℕ → Bool) {i h j : ℕ} → i ≤ h → h ≤ j → run it K i (j - i) ≡ run it K i (h - i) ++ run it K h (j - h)
+  pub run-join : (it : ℕ → A) (K : ℕ → Bool) {i h j : ℕ} → i ≤ h → h ≤ j
+      → run it K i (j - i) ≡ run it K i (h - i) ++ run it K h (j - h)
   run-join it K {i} {h} {j} a b =
       let e : j - i ≡ h - i + (j - h) = omega arith in
       let f : i + (h - i) ≡ h = omega arith in
@@ -43,13 +44,21 @@ module _ {A : Type 0} where
     first : run it K i h ≡ l
     second : run it K (i + h) k ≡ r
 
-  split-added : (it : ℕ → A) (K : ℕ → Bool) (i n : ℕ) (l r : List A) (b : Bool) → K i ≡ b → added b (it i) (run it K (suc i) n) ≡ l ++ r
+  split-added : (it : ℕ → A) (K : ℕ → Bool) (i n : ℕ) (l r : List A) (b : Bool)
+      → K i ≡ b → added b (it i) (run it K (suc i) n) ≡ l ++ r
       → ((l r : List A) → run it K (suc i) n ≡ l ++ r → Split it K (suc i) n l r) → Split it K i (suc n) l r
   unfolding run
   split-added it K i n l r false e p ih =
       let s = ih l r p in
-      record { h = suc (s .h); k = s .k; whole = ap suc (s .whole) ∙ sym (suc-add _ _); first = rw e (s .first); second = rw (add-suc, ← suc-add) (s .second) }
-  split-added it K i n [] r true e p ih = record { h = 0; k = suc n; whole = sym (zero-add _); first = refl; second = rw (add-zero, e) p }
+      record {
+        h = suc (s .h);
+        k = s .k;
+        whole = ap suc (s .whole) ∙ sym (suc-add _ _);
+        first = rw e (s .first);
+        second = rw (add-suc, ← suc-add) (s .second);
+      }
+  split-added it K i n [] r true e p ih =
+      record { h = 0; k = suc n; whole = sym (zero-add _); first = refl; second = rw (add-zero, e) p }
   split-added it K i n (x ∷ l) r true e p ih =
       let s = ih l r (tail-eq-of-cons-eq p) in
       record {
@@ -73,13 +82,20 @@ module _ {A : Type 0} where
     pub first : run it K i (h - i) ≡ l
     pub second : run it K h (j - h) ≡ r
 
-  pub run-split : (it : ℕ → A) (K : ℕ → Bool) {i j : ℕ} (l r : List A) → i ≤ j → run it K i (j - i) ≡ l ++ r → SplitAt it K i j l r
+  pub run-split : (it : ℕ → A) (K : ℕ → Bool) {i j : ℕ} (l r : List A)
+      → i ≤ j → run it K i (j - i) ≡ l ++ r → SplitAt it K i j l r
   run-split it K {i} {j} l r a p =
       let s = split it K i (j - i) l r p in
       let w = s .whole in
       let e : i + s .h - i ≡ s .h = omega arith in
       let f : j - (i + s .h) ≡ s .k = omega arith in
-      record { h = i + s .h; after = omega arith; before = omega arith; first = rw e (s .first); second = rw f (s .second) }
+      record {
+        h = i + s .h;
+        after = omega arith;
+        before = omega arith;
+        first = rw e (s .first);
+        second = rw f (s .second);
+      }
 
   run-shift : (it : ℕ → A) (K : ℕ → Bool) (i n : ℕ) → run it K (suc i) n ≡ run (λ k. it (suc k)) (λ k. K (suc k)) i n
   unfolding run
@@ -87,7 +103,9 @@ module _ {A : Type 0} where
   run-shift it K i (suc n) = ap (added (K (suc i)) (it (suc i))) (run-shift it K (suc i) n)
 
   -- the run over a whole list, by a test on its members
-  pub run-list : (P : A → Bool) (d : A) (l : List A) → run (λ k. getD l k d) (λ k. P (getD l k d)) 0 (length l) ≡ kept P l
+  pub run-list : (P : A → Bool) (d : A) (l : List A)
+      → run (λ k. getD l k d) (λ k. P (getD l k d)) 0 (length l) ≡ kept P l
   unfolding run kept
   run-list P d [] = refl
-  run-list P d (x ∷ l) = ap (added (P x) x) (run-shift (λ k. getD (x ∷ l) k d) (λ k. P (getD (x ∷ l) k d)) 0 (length l) ∙ run-list P d l)
+  run-list P d (x ∷ l) =
+      ap (added (P x) x) (run-shift (λ k. getD (x ∷ l) k d) (λ k. P (getD (x ∷ l) k d)) 0 (length l) ∙ run-list P d l)

@@ -8,13 +8,18 @@ use native.Mathlib.Omega.{arith}
 use Rattle.tables.proofs.Booleans.{and-both, both-and, or-either, or-left, or-right}
 use Rattle.matching_rules.specs.Items.{string, noAttributes, Lookups}
 use Rattle.matching_rules.specs.Rules.{Match}
-use Rattle.matching_tokens.specs.Marked.{Tree, Shows, shows-empty, shows-leaf, shows-oneOrMore, shows-choice, shows-group, nullable, Read, read, done, fed, accepts}
-use Rattle.matching_tokens.proofs.Stretches.{Tokens, Since, here, later, Completes, completes-same, completes-empty, completes-leaf, completes-choice, completes-group, completes-again, joined-nothing, repeats-nothing}
-use Rattle.matching_tokens.proofs.TokenRules.{Ends, ends-empty, ends-data, ends-choice, ends-group, ends-oneOrMore}
+use Rattle.matching_tokens.specs.Marked.{Tree, Shows, shows-empty, shows-leaf, shows-oneOrMore, shows-choice}
+use Rattle.matching_tokens.specs.Marked.{shows-group, nullable, Read, read, done, fed, accepts}
+use Rattle.matching_tokens.proofs.Stretches.{Tokens, Since, here, later, Completes, completes-same}
+use Rattle.matching_tokens.proofs.Stretches.{completes-empty, completes-leaf, completes-choice}
+use Rattle.matching_tokens.proofs.Stretches.{completes-group, completes-again, joined-nothing, repeats-nothing}
+use Rattle.matching_tokens.proofs.TokenRules.{Ends, ends-empty, ends-data}
+use Rattle.matching_tokens.proofs.TokenRules.{ends-choice, ends-group, ends-oneOrMore}
 
 -- the tests of both and of either tell of both and of either
 both-tell : (a b : Bool) {A B : Type 0} → (a ≡ true) ↔ A → (b ≡ true) ↔ B → ((a && b) ≡ true) ↔ (A × B)
-both-tell a b f g = (λ e. let t = and-both a b e in (f .0 (t .0), g .0 (t .1)), λ t. both-and (f .1 (t .0)) (g .1 (t .1)))
+both-tell a b f g =
+    (λ e. let t = and-both a b e in (f .0 (t .0), g .0 (t .1)), λ t. both-and (f .1 (t .0)) (g .1 (t .1)))
 
 either-tells : (a b : Bool) {A B : Type 0} → (a ≡ true) ↔ A → (b ≡ true) ↔ B → ((a || b) ≡ true) ↔ (A ⊎ B)
 either-tells a b {A} {B} f g = (λ e. to (or-either a b e), from)
@@ -29,27 +34,36 @@ either-tells a b {A} {B} f g = (λ e. to (or-either a b e), from)
 
 module _ (L : Lookups) (NotMatch : List ℕ → ℕ → Type 0) where
   -- the tree may be empty exactly when the pattern may
-  pub nullable-right : {r : ℕ} {p : Tree} → Shows L NotMatch r p → (nullable p ≡ true) ↔ Match L NotMatch noAttributes [] (L .pattern r)
+  pub nullable-right : {r : ℕ} {p : Tree} → Shows L NotMatch r p
+      → (nullable p ≡ true) ↔ Match L NotMatch noAttributes [] (L .pattern r)
   nullable-right (shows-empty e) = rw e (λ n. ends-empty L NotMatch [] .0 refl, λ d. refl)
-  nullable-right {r} (shows-leaf {takes = takes} i tells) = (λ n. absurd (false≢true n), λ d. absurd (some (ends-data L NotMatch (L .pattern r) i takes tells [] .1 d)))
+  nullable-right {r} (shows-leaf {takes = takes} i tells) =
+      (λ n. absurd (false≢true n), λ d. absurd (some (ends-data L NotMatch (L .pattern r) i takes tells [] .1 d)))
     where
       some : (t : List ℕ) × (_≡_ {A = Tokens} [] (t ∷ [])) × (takes t ≡ true) → ⊥
       some o = let e = o .1 in let z : _≡_ {A = ℕ} 0 1 = cc in omega arith
-  nullable-right (shows-oneOrMore {a = a} e h s) = rw e (Iff·trans (nullable-right s) (Iff·trans repeats-nothing (ends-oneOrMore L NotMatch a [])))
+  nullable-right (shows-oneOrMore {a = a} e h s) =
+      rw e (Iff·trans (nullable-right s) (Iff·trans repeats-nothing (ends-oneOrMore L NotMatch a [])))
   nullable-right (shows-choice {a = a} {b = b} {p = p} {q = q} e h k s t) =
-      rw e (Iff·trans (either-tells (nullable p) (nullable q) (nullable-right s) (nullable-right t)) (ends-choice L NotMatch a b []))
+      rw e (Iff·trans (either-tells (nullable p) (nullable q) (nullable-right s) (nullable-right t))
+      (ends-choice L NotMatch a b []))
   nullable-right (shows-group {a = a} {b = b} {p = p} {q = q} e h k s t) =
-      rw e (Iff·trans (both-tell (nullable p) (nullable q) (nullable-right s) (nullable-right t)) (Iff·trans joined-nothing (ends-group L NotMatch a b [])))
+      rw e (Iff·trans (both-tell (nullable p) (nullable q) (nullable-right s) (nullable-right t))
+      (Iff·trans joined-nothing (ends-group L NotMatch a b [])))
 
   -- the tree is completed exactly when a stretch matches the pattern
   completed : {r : ℕ} {p : Tree} → Shows L NotMatch r p → Completes (done p) (Ends L NotMatch (L .pattern r))
   unfolding done
   completed (shows-empty e) = rw e (completes-same (ends-empty L NotMatch) completes-empty)
-  completed {r} (shows-leaf {takes = takes} i tells) = completes-same (ends-data L NotMatch (L .pattern r) i takes tells) (completes-leaf takes)
-  completed (shows-oneOrMore {a = a} e h s) = rw e (completes-same (ends-oneOrMore L NotMatch a) (completes-again (completed s)))
-  completed (shows-choice {a = a} {b = b} e h k s t) = rw e (completes-same (ends-choice L NotMatch a b) (completes-choice (completed s) (completed t)))
+  completed {r} (shows-leaf {takes = takes} i tells) =
+      completes-same (ends-data L NotMatch (L .pattern r) i takes tells) (completes-leaf takes)
+  completed (shows-oneOrMore {a = a} e h s) =
+      rw e (completes-same (ends-oneOrMore L NotMatch a) (completes-again (completed s)))
+  completed (shows-choice {a = a} {b = b} e h k s t) =
+      rw e (completes-same (ends-choice L NotMatch a b) (completes-choice (completed s) (completed t)))
   completed (shows-group {a = a} {b = b} {p = p} {q = q} e h k s t) =
-      rw e (completes-same (ends-group L NotMatch a b) (completes-group (completed s) (completed t) (nullable p) (nullable q) (nullable-right s) (nullable-right t)))
+      rw e (completes-same (ends-group L NotMatch a b)
+      (completes-group (completed s) (completed t) (nullable p) (nullable q) (nullable-right s) (nullable-right t)))
 
 -- the one stretch of h is m
 record Only (h : List Read) (m : Tokens) : Type 0 where
@@ -85,7 +99,10 @@ module _ (L : Lookups) (NotMatch : List ℕ → ℕ → Type 0) {r : ℕ} {p : T
       o = only-fed ts (only-first t)
 
       sound : done p (fed (read true t ∷ []) ts) ≡ true → Ends L NotMatch (L .pattern r) (reverse (t ∷ ts))
-      sound e = let f = c .sound (fed (read true t ∷ []) ts) e in subst (Ends L NotMatch (L .pattern r)) (o .only (f .m) (f .since)) (f .holds)
+      sound e =
+          let f = c .sound (fed (read true t ∷ []) ts) e in
+          subst (Ends L NotMatch (L .pattern r)) (o .only (f .m) (f .since)) (f .holds)
 
-  pub accepts-right : (ts : Tokens) → (accepts p ts ≡ true) ↔ Match L NotMatch noAttributes (map string ts) (L .pattern r)
+  pub accepts-right : (ts : Tokens)
+      → (accepts p ts ≡ true) ↔ Match L NotMatch noAttributes (map string ts) (L .pattern r)
   accepts-right ts = rw (reverse-reverse ts) at (accepted ts)

@@ -18,8 +18,10 @@ use Rattle.schema_restrictions.specs.Schema.{SchemaPasses}
 use Rattle.matching_rules.specs.Items.{string, noAttributes, Lookups}
 use Rattle.matching_rules.specs.Rules.{Match, NotMatchBy, data-1, data-2, value, choice-1, choice-2}
 use Rattle.matching_rules.specs.Job.{lookups, datatypeEqual}
-use Rattle.matching_rules.specs.Reach.{Subpattern, operand, choice-first, choice-second, group-first, group-second, repeated, of-except}
-use Rattle.matching_rules.specs.Restricted.{Plain, plain-notAllowed, plain-value, plain-data, plain-except, plain-choice}
+use Rattle.matching_rules.specs.Reach.{Subpattern, operand, choice-first, choice-second}
+use Rattle.matching_rules.specs.Reach.{group-first, group-second, repeated, of-except}
+use Rattle.matching_rules.specs.Restricted.{Plain, plain-notAllowed, plain-value}
+use Rattle.matching_rules.specs.Restricted.{plain-data, plain-except, plain-choice}
 use Rattle.matching_rules.proofs.Inversion.{One, stepwise}
 use Rattle.matching_rules.proofs.Passing.{restricted}
 use Rattle.matching_rules.proofs.RowPatterns.{Makes, makes-data, makes-except, makes-value, makes-choice, row-makes}
@@ -99,7 +101,8 @@ module _ (s : List ℕ) (row : ℕ) where
       go (yes e) = data-leaf e
       go (no e) = rw (value-at s row (omega arith))
 
-choice-parts : (K : Lookups) {x : Pattern} → Plain K x → (p q : ℕ) → x ≡ pattern.choice p q → Plain K (K .pattern p) × Plain K (K .pattern q)
+choice-parts : (K : Lookups) {x : Pattern} → Plain K x → (p q : ℕ)
+    → x ≡ pattern.choice p q → Plain K (K .pattern p) × Plain K (K .pattern q)
 choice-parts K plain-notAllowed p q e = let z : _≡_ {A = ℕ} 0 1 = cc in absurd (omega arith)
 choice-parts K plain-value p q e = let z : _≡_ {A = ℕ} 0 1 = cc in absurd (omega arith)
 choice-parts K plain-data p q e = let z : _≡_ {A = ℕ} 0 1 = cc in absurd (omega arith)
@@ -120,33 +123,46 @@ module _ (T : StringTable) (s : List ℕ) (row : ℕ) where
     pub fits-all : kindOf s row ≡ kind.«data» → bOf s row ≡ kind.noRow → DecidesAt T s row (string token ∷ []) true
     fits-all e f t = rw (data-at s row e f) data-1
 
-    pub fits-value : kindOf s row ≡ kind.value → (r : Bool) → Decides (datatypeEqual (aOf s row) token (textOf T (bOf s row))) r → DecidesAt T s row (string token ∷ []) r
+    pub fits-value : kindOf s row ≡ kind.value → (r : Bool)
+        → Decides (datatypeEqual (aOf s row) token (textOf T (bOf s row))) r → DecidesAt T s row (string token ∷ []) r
     fits-value e r d t =
         let y = stepwise (L T s t) (N T s t) (pattern.value (aOf s row) (bOf s row)) in
         decides-same r (λ z. rw (value-at s row e) (value z)) (λ z. the-one (y .0 (rw (value-at s row e) at z) .1)) d
 
-    pub fits-but : SchemaPasses (schemaStrings T) s → kindOf s row ≡ kind.«data» → bOf s row ≢ kind.noRow → (r : Bool) → DecidesAt T s (bOf s row) (string token ∷ []) r → DecidesAt T s row (string token ∷ []) (not r)
+    pub fits-but : SchemaPasses (schemaStrings T) s → kindOf s row ≡ kind.«data» → bOf s row ≢ kind.noRow
+        → (r : Bool) → DecidesAt T s (bOf s row) (string token ∷ []) r → DecidesAt T s row (string token ∷ []) (not r)
     fits-but passes e f r d t = go r (d t)
       where
-        denied : N T s t token (bOf s row) ↔ ¬ Match (L T s t) (N T s t) noAttributes (string token ∷ []) (patternOf s (bOf s row))
+        denied : N T s t token (bOf s row)
+            ↔ ¬ Match (L T s t) (N T s t) noAttributes (string token ∷ []) (patternOf s (bOf s row))
         denied = not-match (restricted (tablesOf T s t) passes) row (aOf s row) (bOf s row) (except-at s row e f) token
 
-        go : (r : Bool) → Decides (Match (L T s t) (N T s t) noAttributes (string token ∷ []) (patternOf s (bOf s row))) r → Decides (Match (L T s t) (N T s t) noAttributes (string token ∷ []) (patternOf s row)) (not r)
-        go true m = λ n. denied .0 (the-one (stepwise (L T s t) (N T s t) (pattern.dataExcept (aOf s row) (bOf s row)) .0 (rw (except-at s row e f) at n) .1)) m
+        go : (r : Bool) → Decides (Match (L T s t) (N T s t) noAttributes (string token ∷ []) (patternOf s (bOf s row)))
+            r → Decides (Match (L T s t) (N T s t) noAttributes (string token ∷ []) (patternOf s row)) (not r)
+        go true m =
+            λ n. denied .0 (the-one (stepwise (L T s t) (N T s t)
+            (pattern.dataExcept (aOf s row) (bOf s row)) .0 (rw (except-at s row e f) at n) .1)) m
         go false n = rw (except-at s row e f) (data-2 (denied .1 n))
 
-    pub fits-first : kindOf s row ≡ kind.choice → {r : Bool} → DecidesAt T s (aOf s row) (string token ∷ []) r → r ≡ true → DecidesAt T s row (string token ∷ []) true
+    pub fits-first : kindOf s row ≡ kind.choice → {r : Bool} → DecidesAt T s (aOf s row) (string token ∷ []) r
+        → r ≡ true → DecidesAt T s row (string token ∷ []) true
     fits-first e d f t = rw (choice-at s row e) (choice-1 (subst (Decides _) f (d t)))
 
-    pub fits-second : kindOf s row ≡ kind.choice → {q : Bool} → DecidesAt T s (aOf s row) (string token ∷ []) q → q ≡ false → (r : Bool) → DecidesAt T s (bOf s row) (string token ∷ []) r → DecidesAt T s row (string token ∷ []) r
+    pub fits-second : kindOf s row ≡ kind.choice → {q : Bool} → DecidesAt T s (aOf s row) (string token ∷ []) q → q
+        ≡ false → (r : Bool) → DecidesAt T s (bOf s row) (string token ∷ []) r → DecidesAt T s row (string token ∷ []) r
     fits-second e {q} c f r d t =
-        let y = stepwise (L T s t) (N T s t) {a = noAttributes} {m = string token ∷ []} (pattern.choice (aOf s row) (bOf s row)) in
-        decides-same r (λ z. rw (choice-at s row e) (choice-2 z)) (λ z. ⊎-elim (λ m. absurd (subst (Decides _) f (c t) m)) (λ m. m) (y .0 (rw (choice-at s row e) at z))) (d t)
+        let y = stepwise (L T s t) (N T s t) {a = noAttributes}
+        {m = string token ∷ []} (pattern.choice (aOf s row) (bOf s row)) in
+        decides-same r (λ z. rw (choice-at s row e) (choice-2 z))
+        (λ z. ⊎-elim (λ m. absurd (subst (Decides _) f (c t) m)) (λ m. m) (y .0 (rw (choice-at s row e) at z)))
+        (d t)
 
-    pub fits-none : PlainAt T s row → kindOf s row ≢ kind.«data» → kindOf s row ≢ kind.value → kindOf s row ≢ kind.choice → DecidesAt T s row (string token ∷ []) false
+    pub fits-none : PlainAt T s row → kindOf s row ≢ kind.«data» → kindOf s row ≢ kind.value
+        → kindOf s row ≢ kind.choice → DecidesAt T s row (string token ∷ []) false
     fits-none k nd nv nc t m = go (k t) (row-makes s row refl) m
       where
-        go : {x : Pattern} → Plain (L T s t) x → Makes (kindOf s row) (aOf s row) (bOf s row) x → ¬ Match (L T s t) (N T s t) noAttributes (string token ∷ []) x
+        go : {x : Pattern} → Plain (L T s t) x → Makes (kindOf s row) (aOf s row) (bOf s row) x
+            → ¬ Match (L T s t) (N T s t) noAttributes (string token ∷ []) x
         go plain-notAllowed h d = stepwise (L T s t) (N T s t) pattern.notAllowed .0 d
         go plain-value (makes-value e) d = nv e
         go plain-data (makes-data e f) d = nd e

@@ -11,7 +11,10 @@ use lib.Dec.{eqb}
 use Rattle.tables.specs.Outputs.{zeros}
 use Rattle.tables.proofs.Fill.{getD-zeros}
 use Rattle.matching_rules.specs.Items.{Lookups}
-use Rattle.matching_tokens.specs.Marked.{Tree, empty, leaf, oneOrMore, choice, group, rowOf, Shows, shows-empty, shows-leaf, shows-oneOrMore, shows-choice, shows-group, In, in-root, in-part, in-choice-1, in-choice-2, in-group-1, in-group-2, nullable, Read, second, again, done}
+use Rattle.matching_tokens.specs.Marked.{Tree, empty, leaf, oneOrMore, choice, group, rowOf, Shows}
+use Rattle.matching_tokens.specs.Marked.{shows-empty, shows-leaf, shows-oneOrMore, shows-choice}
+use Rattle.matching_tokens.specs.Marked.{shows-group, In, in-root, in-part, in-choice-1, in-choice-2}
+use Rattle.matching_tokens.specs.Marked.{in-group-1, in-group-2, nullable, Read, second, again, done}
 use Rattle.matching_tokens.specs.MarkTable.{mark, marked, Slot, HoldsMarks}
 
 mark-told : (b : Bool) → eqb (mark b) 1 ≡ b
@@ -59,23 +62,34 @@ holds-slot marks (choice r p q) h c = c .0
 holds-slot marks (group r p q) h c = c .0
 
 -- the mark of a part, where its row shows the tree
-pub holds-own : {L : Lookups} {N : List ℕ → ℕ → Type 0} {r : ℕ} (marks : List ℕ) (p : Tree) (h : List Read) → Shows L N r p → HoldsMarks marks p h → marked marks r ≡ done p h
+pub holds-own : {L : Lookups} {N : List ℕ → ℕ → Type 0} {r : ℕ} (marks : List ℕ) (p : Tree) (h : List Read)
+    → Shows L N r p → HoldsMarks marks p h → marked marks r ≡ done p h
 holds-own marks p h s c = subst (λ (x : ℕ). marked marks x ≡ done p h) (row-shown s) (holds-slot marks p h c .told)
 
 module _ (before after : List ℕ) (size : length after ≡ length before) where
-  slot-kept : (p : Tree) (h : List Read) → marked after (rowOf p) ≡ marked before (rowOf p) → Slot before p h → Slot after p h
+  slot-kept : (p : Tree) (h : List Read)
+      → marked after (rowOf p) ≡ marked before (rowOf p) → Slot before p h → Slot after p h
   slot-kept p h e s = record { room = subst (λ (n : ℕ). rowOf p < n) (sym size) (s .room); told = e ∙ s .told }
 
   -- a table with the same marks at a tree's rows holds the same
-  pub holds-kept : (p : Tree) (h : List Read) → ((i : ℕ) → In i p → marked after i ≡ marked before i) → HoldsMarks before p h → HoldsMarks after p h
+  pub holds-kept : (p : Tree) (h : List Read) → ((i : ℕ) → In i p → marked after i ≡ marked before i)
+      → HoldsMarks before p h → HoldsMarks after p h
   holds-kept (empty r) h same c = slot-kept (empty r) h (same r (in-root refl)) c
   holds-kept (leaf r takes) h same c = slot-kept (leaf r takes) h (same r (in-root refl)) c
-  holds-kept (oneOrMore r p) h same c =
-      (slot-kept (oneOrMore r p) h (same r (in-root refl)) (c .0), holds-kept p (again (done p) h) (λ i j. same i (in-part j)) (c .1))
-  holds-kept (choice r p q) h same c =
-      (slot-kept (choice r p q) h (same r (in-root refl)) (c .0), holds-kept p h (λ i j. same i (in-choice-1 j)) (c .1), holds-kept q h (λ i j. same i (in-choice-2 j)) (c .2))
-  holds-kept (group r p q) h same c =
-      (slot-kept (group r p q) h (same r (in-root refl)) (c .0), holds-kept p h (λ i j. same i (in-group-1 j)) (c .1), holds-kept q (second (nullable p) (done p) h) (λ i j. same i (in-group-2 j)) (c .2))
+  holds-kept (oneOrMore r p) h same c = (
+    slot-kept (oneOrMore r p) h (same r (in-root refl)) (c .0),
+    holds-kept p (again (done p) h) (λ i j. same i (in-part j)) (c .1),
+  )
+  holds-kept (choice r p q) h same c = (
+    slot-kept (choice r p q) h (same r (in-root refl)) (c .0),
+    holds-kept p h (λ i j. same i (in-choice-1 j)) (c .1),
+    holds-kept q h (λ i j. same i (in-choice-2 j)) (c .2),
+  )
+  holds-kept (group r p q) h same c = (
+    slot-kept (group r p q) h (same r (in-root refl)) (c .0),
+    holds-kept p h (λ i j. same i (in-group-1 j)) (c .1),
+    holds-kept q (second (nullable p) (done p) h) (λ i j. same i (in-group-2 j)) (c .2),
+  )
 
 -- nothing is completed before the first token
 done-none : (p : Tree) → done p [] ≡ false
@@ -88,12 +102,17 @@ done-none (group r p q) = simp (done-none p, done-none q)
 
 module _ (n : ℕ) where
   slot-none : (p : Tree) → rowOf p < n → Slot (zeros n) p []
-  slot-none p h = record { room = rw (length-replicate {A = ℕ} n 0) h; told = ap (λ (x : ℕ). eqb x 1) (getD-zeros n (rowOf p)) ∙ sym (done-none p) }
+  slot-none p h = record {
+    room = rw (length-replicate {A = ℕ} n 0) h;
+    told = ap (λ (x : ℕ). eqb x 1) (getD-zeros n (rowOf p)) ∙ sym (done-none p);
+  }
 
   -- and a table of zeros says so
-  pub holds-none : {L : Lookups} {N : List ℕ → ℕ → Type 0} {r : ℕ} {p : Tree} → Shows L N r p → r < n → HoldsMarks (zeros n) p []
+  pub holds-none : {L : Lookups} {N : List ℕ → ℕ → Type 0} {r : ℕ} {p : Tree}
+      → Shows L N r p → r < n → HoldsMarks (zeros n) p []
   holds-none {p = p} (shows-empty e) h = slot-none p h
   holds-none {p = p} (shows-leaf d t) h = slot-none p h
   holds-none {p = p} (shows-oneOrMore e f s) h = (slot-none p h, holds-none s (omega arith))
-  holds-none {p = p} (shows-choice e f g s t) h = (slot-none p h, holds-none s (omega arith), holds-none t (omega arith))
+  holds-none {p = p} (shows-choice e f g s t) h =
+      (slot-none p h, holds-none s (omega arith), holds-none t (omega arith))
   holds-none {p = p} (shows-group e f g s t) h = (slot-none p h, holds-none s (omega arith), holds-none t (omega arith))

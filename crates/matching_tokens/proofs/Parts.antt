@@ -16,7 +16,9 @@ use Rattle.schema.proofs.OneParent.{two-children, Upward, arrived, upward-more,
 use Rattle.matching_rules.specs.Job.{lookups}
 use Rattle.matching_rules.specs.Reach.{Subpattern, operand, repeated}
 use Rattle.matching_rules.proofs.RowPatterns.{row-makes, from-choice, from-group, has-kind, part-child}
-use Rattle.matching_tokens.specs.Marked.{Tree, Shows, shows-empty, shows-leaf, shows-oneOrMore, shows-choice, shows-group, In, in-root, in-part, in-choice-1, in-choice-2, in-group-1, in-group-2, Apart, Proper}
+use Rattle.matching_tokens.specs.Marked.{Tree, Shows, shows-empty, shows-leaf, shows-oneOrMore}
+use Rattle.matching_tokens.specs.Marked.{shows-choice, shows-group, In, in-root, in-part, in-choice-1}
+use Rattle.matching_tokens.specs.Marked.{in-choice-2, in-group-1, in-group-2, Apart, Proper}
 
 module _ {strings : ℕ} (J : Tables) (right : RowsRight strings (J .schema)) where
   abbrev s : List ℕ
@@ -28,7 +30,8 @@ module _ {strings : ℕ} (J : Tables) (right : RowsRight strings (J .schema)) wh
     second : Child s b r
     two : a ≢ b
 
-  two-parts : (r : ℕ) {k : ℕ} → kindOf s r ≡ k → k ≢ 0 → shapeOf k .a ≡ APattern → shapeOf k .b ≡ APattern → Parts r (aOf s r) (bOf s r)
+  two-parts : (r : ℕ) {k : ℕ} → kindOf s r ≡ k → k ≢ 0 → shapeOf k .a ≡ APattern
+      → shapeOf k .b ≡ APattern → Parts r (aOf s r) (bOf s r)
   two-parts r {k} e n f g =
       let h = has-kind right e n in
       let a = pattern-a strings s right r h k e f .0 in
@@ -37,11 +40,15 @@ module _ {strings : ℕ} (J : Tables) (right : RowsRight strings (J .schema)) wh
 
   choice-parts : {r a b : ℕ} → patternOf s r ≡ pattern.choice a b → Parts r a b
   unfolding shapeOf
-  choice-parts {r} e = let m = from-choice (row-makes s r e) in rw (m .1, m .2) at (two-parts r (m .0) (λ z. omega arith) refl refl)
+  choice-parts {r} e =
+      let m = from-choice (row-makes s r e) in
+      rw (m .1, m .2) at (two-parts r (m .0) (λ z. omega arith) refl refl)
 
   group-parts : {r a b : ℕ} → patternOf s r ≡ pattern.group a b → Parts r a b
   unfolding shapeOf
-  group-parts {r} e = let m = from-group (row-makes s r e) in rw (m .1, m .2) at (two-parts r (m .0) (λ z. omega arith) refl refl)
+  group-parts {r} e =
+      let m = from-group (row-makes s r e) in
+      rw (m .1, m .2) at (two-parts r (m .0) (λ z. omega arith) refl refl)
 
   module _ (NotMatch : List ℕ → ℕ → Type 0) where
     root-upward : {r i : ℕ} → r ≡ i → Upward s r i
@@ -52,7 +59,8 @@ module _ {strings : ℕ} (J : Tables) (right : RowsRight strings (J .schema)) wh
     in-upward (shows-empty e) (in-root f) = root-upward f
     in-upward (shows-leaf d t) (in-root f) = root-upward f
     in-upward (shows-oneOrMore e h u) (in-root f) = root-upward f
-    in-upward (shows-oneOrMore {r = r} {a = a} e h u) (in-part j) = upward-more (part-child right r (subst (Subpattern a) (sym e) (operand repeated))) (in-upward u j)
+    in-upward (shows-oneOrMore {r = r} {a = a} e h u) (in-part j) =
+        upward-more (part-child right r (subst (Subpattern a) (sym e) (operand repeated))) (in-upward u j)
     in-upward (shows-choice e h k u v) (in-root f) = root-upward f
     in-upward (shows-choice e h k u v) (in-choice-1 j) = upward-more (choice-parts e .first) (in-upward u j)
     in-upward (shows-choice e h k u v) (in-choice-2 j) = upward-more (choice-parts e .second) (in-upward v j)
@@ -60,7 +68,8 @@ module _ {strings : ℕ} (J : Tables) (right : RowsRight strings (J .schema)) wh
     in-upward (shows-group e h k u v) (in-group-1 j) = upward-more (group-parts e .first) (in-upward u j)
     in-upward (shows-group e h k u v) (in-group-2 j) = upward-more (group-parts e .second) (in-upward v j)
 
-    apart : {r a b : ℕ} {p q : Tree} → Parts r a b → Shows (lookups J) NotMatch a p → Shows (lookups J) NotMatch b q → Apart p q
+    apart : {r a b : ℕ} {p q : Tree} → Parts r a b → Shows (lookups J) NotMatch a p
+        → Shows (lookups J) NotMatch b q → Apart p q
     apart w u v i j k = apart-below right (w .first) (w .second) (w .two) (in-upward u j) (in-upward v k)
 
     pub proper : {r : ℕ} {p : Tree} → Shows (lookups J) NotMatch r p → Proper p

@@ -39,10 +39,12 @@ one-told s from to e t k = (λ f. e ∙ ap (λ (x : List ℕ). x ∷ []) f, λ f
 pub short-text : (T : StringTable) (k : ℕ) → length (textOf T k) ≤ length (T .bytes)
 short-text T k =
     let from = startOf (T .ends) k in
-    simp (length-take, length-drop) (le-trans (min-le-right (endOf (T .ends) k - from) (length (T .bytes) - from)) (omega arith))
+    simp (length-take, length-drop)
+    (le-trans (min-le-right (endOf (T .ends) k - from) (length (T .bytes) - from)) (omega arith))
 
 -- the first token of a text, and what stands behind it
-module _ {s : List ℕ} {from to next : ℕ} (before : Skips s 0 from) (token : TokenTo s from to) (behind : Skips s to next) where
+module _ {s : List ℕ} {from to next : ℕ} (before : Skips s 0 from)
+    (token : TokenTo s from to) (behind : Skips s to next) where
   pub from-within : from ≤ length s
   from-within = skips-within before (omega arith)
 
@@ -69,28 +71,37 @@ module _ {s : List ℕ} {from to next : ℕ} (before : Skips s 0 from) (token : 
       let more = split-first (getD s next 0) (drop (next + 1) s) (skips-stopped behind h) in
       let rest : split (drop next s) ≡ more .head ∷ more .others = ap split (drop-one s next h) ∙ more .apart in
       let all = begun (omega (arith, token .onward, behind .onward)) in
-      none-told s 0 0 (between-reversed s 0 0 (omega arith)) (λ t f. let z : _≡_ {A = ℕ} 0 1 = cc (rest, all, f) in omega arith)
+      none-told s 0 0 (between-reversed s 0 0 (omega arith))
+      (λ t f. let z : _≡_ {A = ℕ} 0 1 = cc (rest, all, f) in omega arith)
 
 -- the places of the strings before n
 abbrev pub PlacedTo : StringTable → List ℕ → ℕ → Type 0
 PlacedTo T places n = (k : ℕ) → k < n → OneToken (textOf T k) (getD places (k * 2) 0) (getD places (k * 2 + 1) 0)
 
 -- two words more
-pub placed-more : (T : StringTable) (places : List ℕ) (n from to : ℕ) → n * 2 + 1 < length places → PlacedTo T places n → OneToken (textOf T n) from to → PlacedTo T (set (set places (n * 2) from) (n * 2 + 1) to) (n + 1)
+pub placed-more : (T : StringTable) (places : List ℕ) (n from to : ℕ) → n * 2 + 1 < length places → PlacedTo T places n
+    → OneToken (textOf T n) from to → PlacedTo T (set (set places (n * 2) from) (n * 2 + 1) to) (n + 1)
 placed-more T places n from to room all one k h = go (ℕ-discrete k n)
   where
-    kept : (i : ℕ) → i ≢ n * 2 → i ≢ n * 2 + 1 → getD (set (set places (n * 2) from) (n * 2 + 1) to) i 0 ≡ getD places i 0
-    kept i f g = getD-set-other (set places (n * 2) from) (n * 2 + 1) i to 0 g ∙ getD-set-other places (n * 2) i from 0 f
+    kept : (i : ℕ) → i ≢ n * 2 → i ≢ n * 2 + 1
+        → getD (set (set places (n * 2) from) (n * 2 + 1) to) i 0 ≡ getD places i 0
+    kept i f g =
+        getD-set-other (set places (n * 2) from) (n * 2 + 1) i to 0 g ∙ getD-set-other places (n * 2) i from 0 f
 
     first : getD (set (set places (n * 2) from) (n * 2 + 1) to) (n * 2) 0 ≡ from
-    first = getD-set-other (set places (n * 2) from) (n * 2 + 1) (n * 2) to 0 (λ e. omega arith) ∙ getD-set-same places (n * 2) from 0 (omega arith)
+    first =
+        getD-set-other (set places (n * 2) from) (n * 2 + 1) (n * 2) to 0 (λ e. omega arith)
+        ∙ getD-set-same places (n * 2) from 0 (omega arith)
 
     then : getD (set (set places (n * 2) from) (n * 2 + 1) to) (n * 2 + 1) 0 ≡ to
     then = getD-set-same (set places (n * 2) from) (n * 2 + 1) to 0 (simp length-set room)
 
-    go : Dec (k ≡ n) → OneToken (textOf T k) (getD (set (set places (n * 2) from) (n * 2 + 1) to) (k * 2) 0) (getD (set (set places (n * 2) from) (n * 2 + 1) to) (k * 2 + 1) 0)
+    go : Dec (k ≡ n) → OneToken (textOf T k) (getD (set (set places (n * 2) from) (n * 2 + 1) to) (k * 2) 0)
+        (getD (set (set places (n * 2) from) (n * 2 + 1) to) (k * 2 + 1) 0)
     go (yes e) = rw (e, first, then) one
-    go (no e) = rw (kept (k * 2) (λ f. omega arith) (λ f. omega arith), kept (k * 2 + 1) (λ f. omega arith) (λ f. omega arith)) (all k (omega arith))
+    go (no e) =
+        rw (kept (k * 2) (λ f. omega arith) (λ f. omega arith), kept (k * 2 + 1) (λ f. omega arith) (λ f. omega arith))
+        (all k (omega arith))
 
 -- a number past the last string has an empty text, which has no token
 pub placed-all : (T : StringTable) (places : List ℕ) → PlacedTo T places (length (T .ends)) → TokenPlaces T places
@@ -100,13 +111,17 @@ placed-all T places all k = go (decLt k (length (T .ends)))
     go (yes h) = all k h
     go (no h) =
         let e : endOf (T .ends) k ≡ 0 = List·getD-eq-default (T .ends) 0 (not-less h) in
-        let none : textOf T k ≡ [] = between-reversed (T .bytes) (startOf (T .ends) k) (endOf (T .ends) k) (omega arith) in
-        rw none (none-told [] (getD places (k * 2) 0) (getD places (k * 2 + 1) 0) (between-beyond [] (getD places (k * 2) 0) (getD places (k * 2 + 1) 0) (omega arith)) (λ t f. nil≢cons f))
+        let none : textOf T k
+        ≡ [] = between-reversed (T .bytes) (startOf (T .ends) k) (endOf (T .ends) k) (omega arith) in
+        rw none (none-told [] (getD places (k * 2) 0) (getD places (k * 2 + 1) 0)
+        (between-beyond [] (getD places (k * 2) 0) (getD places (k * 2 + 1) 0) (omega arith)) (λ t f. nil≢cons f))
 
 -- one value by the number of the datatype
 pub by-string : (d : ℕ) (t v : List ℕ) (r : Bool) → d ≡ 0 → Decides (t ≡ v) r → Decides (datatypeEqual d t v) r
 by-string d t v r e a = rw e a
 
-pub by-token : (d : ℕ) {t : List ℕ} (v : List ℕ) (from to : ℕ) (r : Bool) → d ≢ 0 → Token t → OneToken v from to → Decides (between v from to ≡ t) r → Decides (datatypeEqual d t v) r
+pub by-token : (d : ℕ) {t : List ℕ} (v : List ℕ) (from to : ℕ) (r : Bool) → d ≢ 0 → Token t
+    → OneToken v from to → Decides (between v from to ≡ t) r → Decides (datatypeEqual d t v) r
 by-token zero v from to r n k one a = absurd (n refl)
-by-token (suc d) {t} v from to r n k one a = decides-same r (λ e. one-token k v .1 (one t k .0 e)) (λ e. one t k .1 (one-token k v .0 e)) a
+by-token (suc d) {t} v from to r n k one a =
+    decides-same r (λ e. one-token k v .1 (one t k .0 e)) (λ e. one t k .1 (one-token k v .0 e)) a

@@ -12,8 +12,12 @@ use Rattle.schema.specs.Views.{Pattern}
 use Rattle.schema.specs.Views as pattern
 use Rattle.matching_rules.specs.Items.{Lookups}
 use Rattle.matching_rules.specs.Job.{lookups}
-use Rattle.matching_rules.proofs.RowPatterns.{Makes, makes-empty, makes-notAllowed, makes-text, makes-data, makes-except, makes-value, makes-list, makes-attribute, makes-ref, makes-oneOrMore, makes-choice, makes-group, makes-interleave, makes-none, row-makes, from-oneOrMore, from-choice, from-group}
-use Rattle.matching_tokens.specs.Marked.{Tree, empty, leaf, oneOrMore, choice, group, isData, TakesRight, Shows, shows-empty, shows-leaf, shows-oneOrMore, shows-choice, shows-group}
+use Rattle.matching_rules.proofs.RowPatterns.{Makes, makes-empty, makes-notAllowed, makes-text, makes-data}
+use Rattle.matching_rules.proofs.RowPatterns.{makes-except, makes-value, makes-list, makes-attribute, makes-ref}
+use Rattle.matching_rules.proofs.RowPatterns.{makes-oneOrMore, makes-choice, makes-group, makes-interleave}
+use Rattle.matching_rules.proofs.RowPatterns.{makes-none, row-makes, from-oneOrMore, from-choice, from-group}
+use Rattle.matching_tokens.specs.Marked.{Tree, empty, leaf, oneOrMore, choice, group, isData, TakesRight, Shows}
+use Rattle.matching_tokens.specs.Marked.{shows-empty, shows-leaf, shows-oneOrMore, shows-choice, shows-group}
 
 no-data : {x y : Pattern} → isData x ≡ true → x ≡ y → isData y ≡ false → ⊥
 no-data d e n = true≢false (sym d ∙ ap isData e ∙ n)
@@ -61,14 +65,18 @@ module _ {L : Lookups} {N : List ℕ → ℕ → Type 0} where
   moved : {a b : ℕ} (p : Tree) → a ≡ b → Shows L N a p → Shows L N b p
   moved p e s = subst (λ (x : ℕ). Shows L N x p) e s
 
-  pub shown-oneOrMore : {r a : ℕ} {p : Tree} → Shows L N r p → L .pattern r ≡ pattern.oneOrMore a → RepeatShown L N r a p
-  shown-oneOrMore {a = x} (shows-oneOrMore {a = a} {p = q} f h s) e = let same : a ≡ x = cc in record { part = q; tree = refl; shows = moved q same s }
+  pub shown-oneOrMore : {r a : ℕ} {p : Tree} → Shows L N r p
+      → L .pattern r ≡ pattern.oneOrMore a → RepeatShown L N r a p
+  shown-oneOrMore {a = x} (shows-oneOrMore {a = a} {p = q} f h s) e =
+      let same : a ≡ x = cc in
+      record { part = q; tree = refl; shows = moved q same s }
   shown-oneOrMore (shows-leaf d t) e = absurd (no-data d e refl)
   shown-oneOrMore (shows-empty f) e = let z : _≡_ {A = ℕ} 0 1 = cc (e, f) in absurd (omega arith)
   shown-oneOrMore (shows-choice f h g s t) e = let z : _≡_ {A = ℕ} 0 1 = cc (e, f) in absurd (omega arith)
   shown-oneOrMore (shows-group f h g s t) e = let z : _≡_ {A = ℕ} 0 1 = cc (e, f) in absurd (omega arith)
 
-  pub shown-choice : {r a b : ℕ} {p : Tree} → Shows L N r p → L .pattern r ≡ pattern.choice a b → TwoShown L N choice r a b p
+  pub shown-choice : {r a b : ℕ} {p : Tree} → Shows L N r p
+      → L .pattern r ≡ pattern.choice a b → TwoShown L N choice r a b p
   shown-choice {a = x} {b = y} (shows-choice {a = a} {b = b} {p = p} {q = q} f h g s t) e =
       let first : a ≡ x = cc in
       let then : b ≡ y = cc in
@@ -78,7 +86,8 @@ module _ {L : Lookups} {N : List ℕ → ℕ → Type 0} where
   shown-choice (shows-oneOrMore f h s) e = let z : _≡_ {A = ℕ} 0 1 = cc (e, f) in absurd (omega arith)
   shown-choice (shows-group f h g s t) e = let z : _≡_ {A = ℕ} 0 1 = cc (e, f) in absurd (omega arith)
 
-  pub shown-group : {r a b : ℕ} {p : Tree} → Shows L N r p → L .pattern r ≡ pattern.group a b → TwoShown L N group r a b p
+  pub shown-group : {r a b : ℕ} {p : Tree} → Shows L N r p
+      → L .pattern r ≡ pattern.group a b → TwoShown L N group r a b p
   shown-group {a = x} {b = y} (shows-group {a = a} {b = b} {p = p} {q = q} f h g s t) e =
       let first : a ≡ x = cc in
       let then : b ≡ y = cc in
@@ -105,7 +114,9 @@ no-leaf-made (makes-group e) d v = refl
 no-leaf-made (makes-interleave e) d v = refl
 no-leaf-made (makes-none n) d v = refl
 
-pub childless : (J : Tables) (r : ℕ) → kindOf (J .schema) r ≢ kind.«data» → kindOf (J .schema) r ≢ kind.value → kindOf (J .schema) r ≢ kind.oneOrMore → kindOf (J .schema) r ≢ kind.choice → kindOf (J .schema) r ≢ kind.group → Childless (lookups J) r
+pub childless : (J : Tables) (r : ℕ) → kindOf (J .schema) r ≢ kind.«data»
+    → kindOf (J .schema) r ≢ kind.value → kindOf (J .schema) r ≢ kind.oneOrMore
+    → kindOf (J .schema) r ≢ kind.choice → kindOf (J .schema) r ≢ kind.group → Childless (lookups J) r
 childless J r d v o c g = record {
   no-leaf = no-leaf-made (row-makes (J .schema) r refl) d v;
   no-repeat = λ a e. o (from-oneOrMore (row-makes (J .schema) r e) .0);

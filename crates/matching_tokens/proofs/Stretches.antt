@@ -46,7 +46,10 @@ pub data Repeats (P : Tokens → Type 0) : Tokens → Type 0 where
 pub joined-nothing : {P Q : Tokens → Type 0} → (P [] × Q []) ↔ Joined P Q []
 joined-nothing {P} {Q} = (
   λ b. record { m₁ = []; m₂ = []; made = refl; first = b .0; next = b .1 },
-  λ j. (subst P (second-empty (j .m₂) (j .m₁) (sym (j .made))) (j .first), subst Q (first-empty (j .m₂) (j .m₁) (sym (j .made))) (j .next)),
+  λ j. (
+    subst P (second-empty (j .m₂) (j .m₁) (sym (j .made))) (j .first),
+    subst Q (first-empty (j .m₂) (j .m₁) (sym (j .made))) (j .next),
+  ),
 )
 
 pub repeats-nothing : {P : Tokens → Type 0} → P [] ↔ Repeats P []
@@ -77,7 +80,8 @@ pub record Completes (D : List Read → Bool) (P : Tokens → Type 0) : Type 0 w
   pub sound : (h : List Read) → D h ≡ true → Found h P
   pub complete : (h : List Read) (m : Tokens) → Since h m → P m → D h ≡ true
 
-pub completes-same : {D : List Read → Bool} {P Q : Tokens → Type 0} → ((m : Tokens) → P m ↔ Q m) → Completes D P → Completes D Q
+pub completes-same : {D : List Read → Bool} {P Q : Tokens → Type 0}
+    → ((m : Tokens) → P m ↔ Q m) → Completes D P → Completes D Q
 completes-same same c = record {
   sound = λ h e. let f = c .sound h e in record { m = f .m; since = f .since; holds = same (f .m) .0 (f .holds) };
   complete = λ h m s q. c .complete h m s (same m .1 q);
@@ -88,14 +92,18 @@ pub completes-empty : Completes (λ h. false) (λ m. m ≡ [])
 completes-empty = record { sound = λ h e. absurd (false≢true e); complete = λ h m s e. absurd (since-some s e) }
 
 -- one token
-pub completes-leaf : (takes : List ℕ → Bool) → Completes (taken takes) (λ m. (t : List ℕ) × (m ≡ t ∷ []) × (takes t ≡ true))
+pub completes-leaf : (takes : List ℕ → Bool)
+    → Completes (taken takes) (λ m. (t : List ℕ) × (m ≡ t ∷ []) × (takes t ≡ true))
 completes-leaf takes = record { sound = found; complete = every }
   where
     found : (h : List Read) → taken takes h ≡ true → Found h (λ m. (t : List ℕ) × (m ≡ t ∷ []) × (takes t ≡ true))
     found [] e = absurd (false≢true e)
-    found (read e t ∷ h) d = let b = and-both e (takes t) d in record { m = t ∷ []; since = here (b .0) refl; holds = (t, refl, b .1) }
+    found (read e t ∷ h) d =
+        let b = and-both e (takes t) d in
+        record { m = t ∷ []; since = here (b .0) refl; holds = (t, refl, b .1) }
 
-    every : (h : List Read) (m : Tokens) → Since h m → (t : List ℕ) × (m ≡ t ∷ []) × (takes t ≡ true) → taken takes h ≡ true
+    every : (h : List Read) (m : Tokens) → Since h m
+        → (t : List ℕ) × (m ≡ t ∷ []) × (takes t ≡ true) → taken takes h ≡ true
     every (read e t ∷ h) m (here o f) (u, g, k) = both-and o (subst (λ (x : List ℕ). takes x ≡ true) (cc g) k)
     every (read e t ∷ h) m (later s) (u, g, k) = absurd (since-some s (cc g))
 
@@ -119,14 +127,24 @@ module _ {D E : List Read → Bool} {P Q : Tokens → Type 0} (c : Completes D P
     behind-first (read e t ∷ h) (here {m = m} o f) = go (or-either (e && free) (D h) o)
       where
         go : ((e && free) ≡ true) ⊎ (D h ≡ true) → Before (read e t ∷ h) (t ∷ m) P
-        go (inl g) = let b = and-both e free g in record { older = []; since = here (b .0) (append-nil m ∙ f); holds = first-free .0 (b .1) }
+        go (inl g) =
+            let b = and-both e free g in
+            record { older = []; since = here (b .0) (append-nil m ∙ f); holds = first-free .0 (b .1) }
         go (inr g) =
             let k = c .sound h g in
-            record { older = k .m; since = later (subst (λ (l : Tokens). Since h (l ++ k .m)) (sym f) (k .since)); holds = k .holds }
-    behind-first (read e t ∷ h) (later s) = let b = behind-first h s in record { older = b .older; since = later (b .since); holds = b .holds }
+            record {
+              older = k .m;
+              since = later (subst (λ (l : Tokens). Since h (l ++ k .m)) (sym f) (k .since));
+              holds = k .holds;
+            }
+    behind-first (read e t ∷ h) (later s) =
+        let b = behind-first h s in
+        record { older = b .older; since = later (b .since); holds = b .holds }
 
-    enters-second : (h : List Read) (t : List ℕ) (m₂ m₁ : Tokens) → Since h (t ∷ m₂ ++ m₁) → P m₁ → Since (second free D h) (t ∷ m₂)
-    enters-second (read e t ∷ h) u m₂ m₁ (here o f) p = here (or-left (D h) (both-and o (first-free .1 (subst P (second-empty m₂ m₁ f) p)))) (first-empty m₂ m₁ f)
+    enters-second : (h : List Read) (t : List ℕ) (m₂ m₁ : Tokens)
+        → Since h (t ∷ m₂ ++ m₁) → P m₁ → Since (second free D h) (t ∷ m₂)
+    enters-second (read e t ∷ h) u m₂ m₁ (here o f) p =
+        here (or-left (D h) (both-and o (first-free .1 (subst P (second-empty m₂ m₁ f) p)))) (first-empty m₂ m₁ f)
     enters-second (read e t ∷ h) u [] m₁ (later s) p = here (or-right (e && free) (c .complete h m₁ s p)) refl
     enters-second (read e t ∷ h) u (v ∷ m₂) m₁ (later s) p = later (enters-second h v m₂ m₁ s p)
 
@@ -140,15 +158,25 @@ module _ {D E : List Read → Bool} {P Q : Tokens → Type 0} (c : Completes D P
         found h (inl e) =
             let b = and-both (D h) shut e in
             let f = c .sound h (b .0) in
-            record { m = f .m; since = f .since; holds = record { m₁ = f .m; m₂ = []; made = refl; first = f .holds; next = second-free .0 (b .1) } }
+            record {
+              m = f .m;
+              since = f .since;
+              holds = record { m₁ = f .m; m₂ = []; made = refl; first = f .holds; next = second-free .0 (b .1) };
+            }
         found h (inr e) =
             let f = d .sound (second free D h) e in
             let b = behind-first h (f .since) in
-            record { m = f .m ++ b .older; since = b .since; holds = record { m₁ = b .older; m₂ = f .m; made = refl; first = b .holds; next = f .holds } }
+            record {
+              m = f .m ++ b .older;
+              since = b .since;
+              holds = record { m₁ = b .older; m₂ = f .m; made = refl; first = b .holds; next = f .holds };
+            }
 
-        every : (h : List Read) (m₂ m₁ : Tokens) → Since h (m₂ ++ m₁) → P m₁ → Q m₂ → (D h && shut || E (second free D h)) ≡ true
+        every : (h : List Read) (m₂ m₁ : Tokens) → Since h (m₂ ++ m₁)
+            → P m₁ → Q m₂ → (D h && shut || E (second free D h)) ≡ true
         every h [] m₁ s p q = or-left (E (second free D h)) (both-and (c .complete h m₁ s p) (second-free .1 q))
-        every h (t ∷ m₂) m₁ s p q = or-right (D h && shut) (d .complete (second free D h) (t ∷ m₂) (enters-second h t m₂ m₁ s p) q)
+        every h (t ∷ m₂) m₁ s p q =
+            or-right (D h && shut) (d .complete (second free D h) (t ∷ m₂) (enters-second h t m₂ m₁ s p) q)
 
 module _ {D : List Read → Bool} {P : Tokens → Type 0} (c : Completes D P) where
   -- older sequences, or none
@@ -163,20 +191,28 @@ module _ {D : List Read → Bool} {P : Tokens → Type 0} (c : Completes D P) wh
   behind-older : (h : List Read) {m : Tokens} → Since (again D h) m → Before h m Older
   behind-older (read e t ∷ h) (here {m = m} o f) = go (λ l s. behind-older h s) (or-either e (D (again D h)) o)
     where
-      go : ((l : Tokens) → Since (again D h) l → Before h l Older) → (e ≡ true) ⊎ (D (again D h) ≡ true) → Before (read e t ∷ h) (t ∷ m) Older
+      go : ((l : Tokens) → Since (again D h) l → Before h l Older)
+          → (e ≡ true) ⊎ (D (again D h) ≡ true) → Before (read e t ∷ h) (t ∷ m) Older
       go earlier (inl g) = record { older = []; since = here g (append-nil m ∙ f); holds = inl refl }
       go earlier (inr g) =
           let k = c .sound (again D h) g in
           let b = earlier (k .m) (k .since) in
-          record { older = k .m ++ b .older; since = later (subst (λ (l : Tokens). Since h (l ++ (k .m ++ b .older))) (sym f) (b .since)); holds = inr (after-older (k .m) (b .older) (k .holds) (b .holds)) }
-  behind-older (read e t ∷ h) (later s) = let b = behind-older h s in record { older = b .older; since = later (b .since); holds = b .holds }
+          record {
+            older = k .m ++ b .older;
+            since = later (subst (λ (l : Tokens). Since h (l ++ (k .m ++ b .older))) (sym f) (b .since));
+            holds = inr (after-older (k .m) (b .older) (k .holds) (b .holds));
+          }
+  behind-older (read e t ∷ h) (later s) =
+      let b = behind-older h s in
+      record { older = b .older; since = later (b .since); holds = b .holds }
 
   -- an entry of the whole is one of the part, and the end of a sequence is one more
   enters-again : (h : List Read) {m : Tokens} → Since h m → Since (again D h) m
   enters-again (read e t ∷ h) (here o f) = here (or-left (D (again D h)) o) f
   enters-again (read e t ∷ h) (later s) = later (enters-again h s)
 
-  enters-next : (h : List Read) (t : List ℕ) (m₂ m₁ : Tokens) → Since (again D h) (t ∷ m₂ ++ m₁) → P m₁ → Since (again D h) (t ∷ m₂)
+  enters-next : (h : List Read) (t : List ℕ) (m₂ m₁ : Tokens)
+      → Since (again D h) (t ∷ m₂ ++ m₁) → P m₁ → Since (again D h) (t ∷ m₂)
   enters-next (read e t ∷ h) u m₂ m₁ (here o f) p = here o (first-empty m₂ m₁ f)
   enters-next (read e t ∷ h) u [] m₁ (later s) p = here (or-right e (c .complete (again D h) m₁ s p)) refl
   enters-next (read e t ∷ h) u (v ∷ m₂) m₁ (later s) p = later (enters-next h v m₂ m₁ s p)

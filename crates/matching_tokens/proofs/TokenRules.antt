@@ -66,7 +66,8 @@ record Cut (l r : List Item) (m : Tokens) : Type 0 where
 cut : (l r : List Item) (m : Tokens) → l ++ r ≡ items m → Cut l r m
 cut l r m e = go (strings l r (reverse m) e)
   where
-    strings : (l r : List Item) (ts : Tokens) → l ++ r ≡ map string ts → (ts₁ : Tokens) × (ts₂ : Tokens) × (ts ≡ ts₁ ++ ts₂) × (l ≡ map string ts₁) × (r ≡ map string ts₂)
+    strings : (l r : List Item) (ts : Tokens) → l ++ r ≡ map string ts
+        → (ts₁ : Tokens) × (ts₂ : Tokens) × (ts ≡ ts₁ ++ ts₂) × (l ≡ map string ts₁) × (r ≡ map string ts₂)
     strings [] r ts e = ([], ts, refl, refl, e)
     strings (x ∷ l) r [] e = let z : _≡_ {A = ℕ} 0 1 = cc in absurd (omega arith)
     strings (x ∷ l) r (t ∷ ts) e =
@@ -78,7 +79,8 @@ cut l r m e = go (strings l r (reverse m) e)
     twice : (ts : Tokens) → map string ts ≡ items (reverse ts)
     twice ts = ap (map string) (sym (reverse-reverse ts))
 
-    go : (ts₁ : Tokens) × (ts₂ : Tokens) × (reverse m ≡ ts₁ ++ ts₂) × (l ≡ map string ts₁) × (r ≡ map string ts₂) → Cut l r m
+    go : (ts₁ : Tokens) × (ts₂ : Tokens) × (reverse m ≡ ts₁ ++ ts₂)
+        × (l ≡ map string ts₁) × (r ≡ map string ts₂) → Cut l r m
     go c = record {
       m₁ = reverse (c .0);
       m₂ = reverse (c .1);
@@ -95,22 +97,28 @@ module _ (L : Lookups) (NotMatch : List ℕ → ℕ → Type 0) where
   pub ends-empty : (m : Tokens) → (m ≡ []) ↔ Ends pattern.empty m
   ends-empty m = (λ e. rw e empty, λ d. no-items m (step L NotMatch d .1))
 
-  pub ends-data : (x : Pattern) → isData x ≡ true → (takes : List ℕ → Bool) → ((t : List ℕ) → (takes t ≡ true) ↔ Ends x (t ∷ []))
+  pub ends-data : (x : Pattern) → isData x ≡ true → (takes : List ℕ → Bool)
+      → ((t : List ℕ) → (takes t ≡ true) ↔ Ends x (t ∷ []))
       → (m : Tokens) → ((t : List ℕ) × (m ≡ t ∷ []) × (takes t ≡ true)) ↔ Ends x m
   ends-data x i takes tells m = (λ o. rw (o .1) (tells (o .0) .0 (o .2)), from)
     where
       from : Ends x m → (t : List ℕ) × (m ≡ t ∷ []) × (takes t ≡ true)
-      from d = let o = string-alone L NotMatch x (data-role x i) .0 d .1 in (o .0, one-item m (o .0) (o .1), tells (o .0) .1 (o .2))
+      from d =
+          let o = string-alone L NotMatch x (data-role x i) .0 d .1 in
+          (o .0, one-item m (o .0) (o .1), tells (o .0) .1 (o .2))
 
-  pub ends-choice : (a b : ℕ) (m : Tokens) → (Ends (L .pattern a) m ⊎ Ends (L .pattern b) m) ↔ Ends (pattern.choice a b) m
+  pub ends-choice : (a b : ℕ) (m : Tokens)
+      → (Ends (L .pattern a) m ⊎ Ends (L .pattern b) m) ↔ Ends (pattern.choice a b) m
   ends-choice a b m = (to, λ d. step L NotMatch d)
     where
       to : Ends (L .pattern a) m ⊎ Ends (L .pattern b) m → Ends (pattern.choice a b) m
       to (inl d) = choice-1 d
       to (inr d) = choice-2 d
 
-  pub ends-group : (a b : ℕ) (m : Tokens) → Joined (Ends (L .pattern a)) (Ends (L .pattern b)) m ↔ Ends (pattern.group a b) m
-  ends-group a b m = (λ j. rw (j .made) (cast L NotMatch refl (items-append (j .m₁) (j .m₂)) (group (j .first) (j .next))), from)
+  pub ends-group : (a b : ℕ) (m : Tokens)
+      → Joined (Ends (L .pattern a)) (Ends (L .pattern b)) m ↔ Ends (pattern.group a b) m
+  ends-group a b m =
+      (λ j. rw (j .made) (cast L NotMatch refl (items-append (j .m₁) (j .m₂)) (group (j .first) (j .next))), from)
     where
       from : Ends (pattern.group a b) m → Joined (Ends (L .pattern a)) (Ends (L .pattern b)) m
       from d =
@@ -129,11 +137,13 @@ module _ (L : Lookups) (NotMatch : List ℕ → ℕ → Type 0) where
   repeats-to a (onward {m₁ = m₁} {m₂ = m₂} d r) =
       cast L NotMatch refl (items-append m₁ m₂) (oneOrMore-2 d (repeats-to a r) (λ x y e f. absurd (false≢true e)))
 
-  repeats-from : {s : Attributes} {l : List Item} {a : ℕ} → Match L NotMatch s l (pattern.oneOrMore a) → s ≡ noAttributes → (m : Tokens) → l ≡ items m → Repeats (Ends (L .pattern a)) m
+  repeats-from : {s : Attributes} {l : List Item} {a : ℕ} → Match L NotMatch s l (pattern.oneOrMore a)
+      → s ≡ noAttributes → (m : Tokens) → l ≡ items m → Repeats (Ends (L .pattern a)) m
   repeats-from (oneOrMore-1 d) z m e = once (cast L NotMatch z e d)
   repeats-from {a = a} (oneOrMore-2 {a₁ = a₁} {a₂ = a₂} {m₁ = m₁} {m₂ = m₂} d f k) z m e =
       let c = cut m₁ m₂ m e in
-      subst (Repeats (Ends (L .pattern a))) (sym (c .made)) (onward (cast L NotMatch (none-left a₁ a₂ z) (c .first) d) (repeats-from f (none-right a₁ a₂ z) (c .m₂) (c .next)))
+      subst (Repeats (Ends (L .pattern a))) (sym (c .made)) (onward (cast L NotMatch (none-left a₁ a₂ z) (c .first) d)
+      (repeats-from f (none-right a₁ a₂ z) (c .m₂) (c .next)))
 
   pub ends-oneOrMore : (a : ℕ) (m : Tokens) → Repeats (Ends (L .pattern a)) m ↔ Ends (pattern.oneOrMore a) m
   ends-oneOrMore a m = (λ r. repeats-to a r, λ d. repeats-from d refl m refl)

@@ -11,10 +11,14 @@ use Rattle.schema_restrictions.specs.Schema.{SchemaPasses}
 use Rattle.matching_rules.specs.Items.{Lookups}
 use Rattle.matching_rules.specs.Rules.{NotMatchBy}
 use Rattle.matching_rules.specs.Job.{lookups}
-use Rattle.matching_rules.specs.Reach.{Subpattern, operand, Operand, repeated, choice-first, choice-second, group-first, group-second}
-use Rattle.matching_rules.specs.Restricted.{Restricted, Plain, plain-value, plain-data, plain-except, Listable, listable-empty, listable-value, listable-data, listable-except, listable-oneOrMore, listable-choice, listable-group}
+use Rattle.matching_rules.specs.Reach.{Subpattern, operand, Operand, repeated, choice-first}
+use Rattle.matching_rules.specs.Reach.{choice-second, group-first, group-second}
+use Rattle.matching_rules.specs.Restricted.{Restricted, Plain, plain-value, plain-data, plain-except, Listable}
+use Rattle.matching_rules.specs.Restricted.{listable-empty, listable-value, listable-data, listable-except}
+use Rattle.matching_rules.specs.Restricted.{listable-oneOrMore, listable-choice, listable-group}
 use Rattle.matching_rules.proofs.Passing.{restricted}
-use Rattle.matching_tokens.specs.Marked.{Tree, empty, leaf, oneOrMore, choice, group, isData, Shows, shows-empty, shows-leaf, shows-oneOrMore, shows-choice, shows-group, Proper}
+use Rattle.matching_tokens.specs.Marked.{Tree, empty, leaf, oneOrMore, choice, group, isData, Shows, shows-empty}
+use Rattle.matching_tokens.specs.Marked.{shows-leaf, shows-oneOrMore, shows-choice, shows-group, Proper}
 use Rattle.matching_tokens.proofs.Plain.{EqualDecided, takesAt, takes-right}
 use Rattle.matching_tokens.proofs.Parts.{proper}
 
@@ -27,7 +31,10 @@ module _ {L : Lookups} (R : Restricted L) (equal : EqualDecided L) where
   leaf-shown : {x : Pattern} → Plain L x → isData x ≡ true → (r : ℕ) → L .pattern r ≡ x → Shown L r
   leaf-shown i d r e =
       let plain : Plain L (L .pattern r) = subst (Plain L) (sym e) i in
-      record { tree = leaf r (takesAt R equal r plain); shows = shows-leaf {r = r} (rw e d) (takes-right R equal r plain) }
+      record {
+        tree = leaf r (takesAt R equal r plain);
+        shows = shows-leaf {r = r} (rw e d) (takes-right R equal r plain);
+      }
 
   -- a part is at a smaller row
   part-less : {x : Pattern} (r p : ℕ) → L .pattern r ≡ x → Operand p x → p < r
@@ -44,11 +51,17 @@ module _ {L : Lookups} (R : Restricted L) (equal : EqualDecided L) where
   listable-shown (listable-choice {p₁ = p} {p₂ = q} i j) r e =
       let t = listable-shown i p refl in
       let u = listable-shown j q refl in
-      record { tree = choice r (t .tree) (u .tree); shows = shows-choice e (part-less r p e choice-first) (part-less r q e choice-second) (t .shows) (u .shows) }
+      record {
+        tree = choice r (t .tree) (u .tree);
+        shows = shows-choice e (part-less r p e choice-first) (part-less r q e choice-second) (t .shows) (u .shows);
+      }
   listable-shown (listable-group {p₁ = p} {p₂ = q} i j) r e =
       let t = listable-shown i p refl in
       let u = listable-shown j q refl in
-      record { tree = group r (t .tree) (u .tree); shows = shows-group e (part-less r p e group-first) (part-less r q e group-second) (t .shows) (u .shows) }
+      record {
+        tree = group r (t .tree) (u .tree);
+        shows = shows-group e (part-less r p e group-first) (part-less r q e group-second) (t .shows) (u .shows);
+      }
 
 -- the equalities of a job are equalities of lists of numbers
 equal-decided : (J : Tables) → EqualDecided (lookups J)
@@ -61,7 +74,12 @@ pub record ListTree (J : Tables) (r : ℕ) : Type 0 where
   pub shows : Shows (lookups J) (NotMatchBy (lookups J) (lookups J .rows)) r tree
   pub apart : Proper tree
 
-pub list-tree : {strings : ℕ} (J : Tables) → SchemaPasses strings (J .schema) → (r : ℕ) → Listable (lookups J) (patternOf (J .schema) r) → ListTree J r
+pub list-tree : {strings : ℕ} (J : Tables) → SchemaPasses strings (J .schema)
+    → (r : ℕ) → Listable (lookups J) (patternOf (J .schema) r) → ListTree J r
 list-tree J pass r i =
     let t = listable-shown (restricted J pass) (equal-decided J) i r refl in
-    record { tree = t .tree; shows = t .shows; apart = proper J (pass .rows) (NotMatchBy (lookups J) (lookups J .rows)) (t .shows) }
+    record {
+      tree = t .tree;
+      shows = t .shows;
+      apart = proper J (pass .rows) (NotMatchBy (lookups J) (lookups J .rows)) (t .shows);
+    }

@@ -26,12 +26,14 @@ no-list s n end none (p, e) = none p (lt-of-not-le (λ h. beyond (sym (List·get
     beyond : 0 ≢ kind.list
     beyond z = omega arith
 
-pub longest-more : (J : Tables) (n : ℕ) {m v : ℕ} → m ≡ longestBefore J n → v ≡ valueLength J n → max m v ≡ longestBefore J (n + 1)
+pub longest-more : (J : Tables) (n : ℕ) {m v : ℕ} → m ≡ longestBefore J n
+    → v ≡ valueLength J n → max m v ≡ longestBefore J (n + 1)
 unfolding longestBefore
 longest-more J n e f = rw (e, f, add-one)
 
 -- fewer than three times m plus three are those of which a third is at most m
-pub room-by-thirds : (J : Tables) (room : ℕ) {m : ℕ} → HasList (J .schema) → m ≡ longest J → Decides (WorkTooShort J room) (leb (room / 3) m)
+pub room-by-thirds : (J : Tables) (room : ℕ) {m : ℕ} → HasList (J .schema)
+    → m ≡ longest J → Decides (WorkTooShort J room) (leb (room / 3) m)
 room-by-thirds J room {m} list e = go (leb (room / 3) m) refl
   where
     go : (t : Bool) → leb (room / 3) m ≡ t → Decides (WorkTooShort J room) t
@@ -50,7 +52,8 @@ text-within T k =
 value-within : (J : Tables) (r : ℕ) → valueLength J r ≤ length (J .strings .bytes)
 value-within J r = go (eqb (kindOf (J .instance) r) attribute) (eqb (kindOf (J .instance) r) text)
   where
-    go : (a b : Bool) → cond a (length (textOf (J .strings) (cOf (J .instance) r))) (cond b (length (textOf (J .strings) (aOf (J .instance) r))) 0) ≤ length (J .strings .bytes)
+    go : (a b : Bool) → cond a (length (textOf (J .strings) (cOf (J .instance) r)))
+        (cond b (length (textOf (J .strings) (aOf (J .instance) r))) 0) ≤ length (J .strings .bytes)
     go true b = text-within (J .strings) (cOf (J .instance) r)
     go false true = text-within (J .strings) (aOf (J .instance) r)
     go false false = omega arith

@@ -18,7 +18,9 @@ pub plus-low : (m : ℕ) (w : List ℕ) (i j : ℕ) → Plus (WordsRelate (front
 plus-low m w i j (once a) = front-below m w i j a
 plus-low m w i j (more {h = h} a p) = front-below m w i h a
 
-module _ {m : ℕ} {w₀ w : List ℕ} {i s v : ℕ} (up : Up (WordsRelate (front m w₀))) (k : ℕ) (g : WrittenWords m (Plus (WordsRelate (front m w₀))) w₀ w i) (e : i ≡ k + 1) (x : s ≡ getD w k 0) (im : Image s (front m w) v) where
+module _ {m : ℕ} {w₀ w : List ℕ} {i s v : ℕ} (up : Up (WordsRelate (front m w₀)))
+    (k : ℕ) (g : WrittenWords m (Plus (WordsRelate (front m w₀))) w₀ w i)
+    (e : i ≡ k + 1) (x : s ≡ getD w k 0) (im : Image s (front m w) v) where
   low : k < m
   low = omega (arith, g .within)
 
@@ -31,11 +33,15 @@ module _ {m : ℕ} {w₀ w : List ℕ} {i s v : ℕ} (up : Up (WordsRelate (fron
 
   -- the words after it are closed
   after : (h j : ℕ) → k < h → WordsRelate (front m w) h j → Plus (WordsRelate (front m w₀)) h j
-  after h j l b = let n = front-below m w h j b in g .rows h (omega (arith, e, l)) n .sound j (sym (ap (λ (n : ℕ). bit n j) (front-at m w h n)) ∙ b)
+  after h j l b =
+      let n = front-below m w h j b in
+      g .rows h (omega (arith, e, l)) n .sound j (sym (ap (λ (n : ℕ). bit n j) (front-at m w h n)) ∙ b)
 
   step : (h j : ℕ) → bit s h ≡ true → WordsRelate (front m w) h j → Plus (WordsRelate (front m w₀)) k j
   step h j a b = let r : WordsRelate (front m w₀) k h = sym (was h) ∙ a in
-      more r (⊎-elim (λ (q : k ≡ h). once (subst (λ (n : ℕ). WordsRelate (front m w₀) n j) q (sym (here j) ∙ subst (λ (n : ℕ). WordsRelate (front m w) n j) (sym q) b))) (λ (l : k < h). after h j l b) (eq-or-lt-of-le (up k h r)))
+      more r (⊎-elim (λ (q : k ≡ h). once (subst (λ (n : ℕ). WordsRelate (front m w₀) n j)
+      q (sym (here j) ∙ subst (λ (n : ℕ). WordsRelate (front m w) n j) (sym q) b)))
+      (λ (l : k < h). after h j l b) (eq-or-lt-of-le (up k h r)))
 
   reached : (n j : ℕ) → n ≡ k → Plus (WordsRelate (front m w₀)) n j → bit (bitOr s v) j ≡ true
   reached n j q (once a) = has-or-l s v j (was j ∙ subst (λ (x : ℕ). WordsRelate (front m w₀) x j) q a)
@@ -43,10 +49,12 @@ module _ {m : ℕ} {w₀ w : List ℕ} {i s v : ℕ} (up : Up (WordsRelate (fron
     where
       on : n < h → bit (bitOr s v) j ≡ true
       on l = let b = plus-low m w₀ h j p in
-          has-or-r s v j (im .complete h j (was h ∙ subst (λ (x : ℕ). WordsRelate (front m w₀) x h) q a) (ap (λ (n : ℕ). bit n j) (front-at m w h b) ∙ g .rows h (omega (arith, e, l, q)) b .complete j p))
+          has-or-r s v j (im .complete h j (was h ∙ subst (λ (x : ℕ). WordsRelate (front m w₀) x h) q a)
+          (ap (λ (n : ℕ). bit n j) (front-at m w h b) ∙ g .rows h (omega (arith, e, l, q)) b .complete j p))
 
   pub plus-row : Row (Plus (WordsRelate (front m w₀))) k (bitOr s v)
   plus-row = record {
-    sound = λ j t. ⊎-elim (λ a. once (sym (was j) ∙ a)) (λ a. let r = im .sound j a in step (r .0) j (r .1) (r .2)) (or-has s v j t);
+    sound = λ j t. ⊎-elim (λ a. once (sym (was j) ∙ a))
+        (λ a. let r = im .sound j a in step (r .0) j (r .1) (r .2)) (or-has s v j t);
     complete = λ j p. reached k j refl p;
   }

@@ -37,7 +37,8 @@ module _ (m : ℕ) (w : List ℕ) {i a b : ℕ} (l : i < m) (x : a ≡ getD w i 
   }
 
 -- v is gathered from the words from 64 to end, which are as they were
-pub then-row : (m : ℕ) (w₀ w : List ℕ) {i a v end : ℕ} → i < m → a ≡ getD w₀ i 0 → drop positions w ≡ drop positions w₀ → end ≡ positions + m → Image a (take (end - positions) (drop positions w)) v
+pub then-row : (m : ℕ) (w₀ w : List ℕ) {i a v end : ℕ} → i < m → a ≡ getD w₀ i 0 → drop positions w ≡ drop positions w₀
+    → end ≡ positions + m → Image a (take (end - positions) (drop positions w)) v
     → Row (Then (WordsRelate (front m w₀)) (WordsRelate (next m w₀))) i v
 then-row m w₀ w {i} {a} {v} {end} l x same e im = record {
   sound = λ j r. let t = all .sound j r in (t .0, sym (at (t .0)) ∙ t .1, t .2);

@@ -17,7 +17,8 @@ use Rattle.sets.proofs.Bits.{bit-ext}
 use Rattle.sets.proofs.Members.{none-has}
 
 pub is-map : {ws : List ℕ} {R S : Relation} → Is ws R → ((i j : ℕ) → R i j ↔ S i j) → Is ws S
-is-map is same = record { sound = λ i j e. same i j .0 (is .sound i j e); complete = λ i j s. is .complete i j (same i j .1 s) }
+is-map is same =
+    record { sound = λ i j e. same i j .0 (is .sound i j e); complete = λ i j s. is .complete i j (same i j .1 s) }
 
 -- words that hold a relation that goes up go up
 pub is-up : {ws : List ℕ} {R : Relation} → Is ws R → Up R → Up (WordsRelate ws)
@@ -32,7 +33,8 @@ same-bool false false f g = refl
 pub is-unique : {a b : List ℕ} {R : Relation} → Is a R → Is b R → length a ≡ length b → a ≡ b
 is-unique {a} {b} x y l =
     ext-getD 0 a b l
-    (λ i h. bit-ext (getD a i 0) (getD b i 0) (λ j. same-bool (bit (getD a i 0) j) (bit (getD b i 0) j) (λ e. y .complete i j (x .sound i j e)) (λ e. x .complete i j (y .sound i j e))))
+    (λ i h. bit-ext (getD a i 0) (getD b i 0) (λ j. same-bool (bit (getD a i 0) j) (bit (getD b i 0) j)
+    (λ e. y .complete i j (x .sound i j e)) (λ e. x .complete i j (y .sound i j e))))
 
 -- ---- the words of the first relation, and of the next
 
@@ -61,10 +63,12 @@ room-front r = record { few = r .few; room = omega (arith, r .room) }
 
 -- a store before m keeps them
 rest-set : {m : ℕ} {w₀ w : List ℕ} {i : ℕ} (v : ℕ) → Rest m w₀ w → i < m → Rest m w₀ (set w i v)
-rest-set {m} {w = w} {i = i} v g h = record { size = length-set w i v ∙ g .size; past = drop-set-lt m w i v h ∙ g .past }
+rest-set {m} {w = w} {i = i} v g h =
+    record { size = length-set w i v ∙ g .size; past = drop-set-lt m w i v h ∙ g .past }
 
 -- the relation of the first m words and the rest fix every word
-pub rest-unique : {m : ℕ} {w a b : List ℕ} {R : Relation} → Is (front m a) R → Is (front m b) R → Rest m w a → Rest m w b → a ≡ b
+pub rest-unique : {m : ℕ} {w a b : List ℕ} {R : Relation}
+    → Is (front m a) R → Is (front m b) R → Rest m w a → Rest m w b → a ≡ b
 rest-unique {m} {a = a} {b = b} x y p q =
     let n : length a ≡ length b = p .size ∙ sym (q .size) in
     let l : length (take m a) ≡ length (take m b) = omega (arith, n, length-take m a, length-take m b) in
@@ -89,9 +93,16 @@ pub record WrittenWords (m : ℕ) (R : Relation) (w₀ w : List ℕ) (i : ℕ) :
   pub rows : (k : ℕ) → i ≤ k → k < m → Row R k (getD w k 0)
 
 pub write-none : {m : ℕ} {R : Relation} {w : List ℕ} → WordRoom m m w → WrittenWords m R w w m
-write-none f = record { given = f; within = omega arith; before = λ k h. refl; rest = record { size = refl; past = refl }; rows = λ k h n. absurd (omega arith) }
+write-none f = record {
+  given = f;
+  within = omega arith;
+  before = λ k h. refl;
+  rest = record { size = refl; past = refl };
+  rows = λ k h n. absurd (omega arith);
+}
 
-pub write-more : {m : ℕ} {R : Relation} {w₀ w : List ℕ} {i k v : ℕ} → WrittenWords m R w₀ w i → i ≡ k + 1 → Row R k v → WrittenWords m R w₀ (set w k v) k
+pub write-more : {m : ℕ} {R : Relation} {w₀ w : List ℕ} {i k v : ℕ}
+    → WrittenWords m R w₀ w i → i ≡ k + 1 → Row R k v → WrittenWords m R w₀ (set w k v) k
 write-more {m} {R} {w₀} {w} {i} {k} {v} g e row = record {
   given = g .given;
   within = omega (arith, g .within);
@@ -101,23 +112,34 @@ write-more {m} {R} {w₀} {w} {i} {k} {v} g e row = record {
 }
   where
     here : (n : ℕ) → k ≡ n → Row R n (getD (set w k v) n 0)
-    here n q = subst (λ (x : ℕ). Row R x (getD (set w k v) x 0)) q (subst (Row R k) (sym (getD-set-same w k v 0 (omega (arith, g .rest .size, g .given .room, g .within, e)))) row)
+    here n q =
+        subst (λ (x : ℕ). Row R x (getD (set w k v) x 0)) q
+        (subst (Row R k) (sym (getD-set-same w k v 0 (omega (arith, g .rest .size, g .given .room, g .within, e)))) row)
 
     there : (n : ℕ) → n < m → k < n → Row R n (getD (set w k v) n 0)
-    there n l h = subst (Row R n) (sym (getD-set-other w k n v 0 (λ q. omega (arith, q, h)))) (g .rows n (omega (arith, e, h)) l)
+    there n l h =
+        subst (Row R n) (sym (getD-set-other w k n v 0 (λ q. omega (arith, q, h)))) (g .rows n (omega (arith, e, h)) l)
 
 -- the next relation is as it was, and so is a word of it
-pub next-kept : {m : ℕ} {R : Relation} {w₀ w : List ℕ} {i : ℕ} → WrittenWords m R w₀ w i → drop positions w ≡ drop positions w₀
+pub next-kept : {m : ℕ} {R : Relation} {w₀ w : List ℕ} {i : ℕ}
+    → WrittenWords m R w₀ w i → drop positions w ≡ drop positions w₀
 next-kept {m} {w₀ = w₀} {w = w} g = sym (past w) ∙ ap (drop (positions - m)) (g .rest .past) ∙ past w₀
   where
     past : (l : List ℕ) → drop (positions - m) (drop m l) ≡ drop positions l
-    past l = let n : m + (positions - m) ≡ positions = omega (arith, g .given .few) in drop-drop (positions - m) m l ∙ ap (λ (n : ℕ). drop n l) n
+    past l =
+        let n : m + (positions - m) ≡ positions = omega (arith, g .given .few) in
+        drop-drop (positions - m) m l ∙ ap (λ (n : ℕ). drop n l) n
 
-pub kept : {m : ℕ} {R : Relation} {w₀ w : List ℕ} {i : ℕ} (g : WrittenWords m R w₀ w i) (k : ℕ) → getD w (positions + k) 0 ≡ getD w₀ (positions + k) 0
-kept {w₀ = w₀} {w = w} g k = sym (getD-drop positions w k 0) ∙ ap (λ (l : List ℕ). getD l k 0) (next-kept g) ∙ getD-drop positions w₀ k 0
+pub kept : {m : ℕ} {R : Relation} {w₀ w : List ℕ} {i : ℕ} (g : WrittenWords m R w₀ w i) (k : ℕ)
+    → getD w (positions + k) 0 ≡ getD w₀ (positions + k) 0
+kept {w₀ = w₀} {w = w} g k =
+    sym (getD-drop positions w k 0) ∙ ap (λ (l : List ℕ). getD l k 0) (next-kept g) ∙ getD-drop positions w₀ k 0
 
-pub written : {m : ℕ} {R : Relation} {w₀ w : List ℕ} {i : ℕ} → WrittenWords m R w₀ w i → i ≤ 0 → ((k j : ℕ) → R k j → k < m) → Is (front m w) R
+pub written : {m : ℕ} {R : Relation} {w₀ w : List ℕ} {i : ℕ}
+    → WrittenWords m R w₀ w i → i ≤ 0 → ((k j : ℕ) → R k j → k < m) → Is (front m w) R
 written {m} {R} {w₀} {w} {i} g z low = record {
-  sound = λ k j e. let l = front-below m w k j e in g .rows k (omega arith) l .sound j (sym (ap (λ (x : ℕ). bit x j) (front-at m w k l)) ∙ e);
-  complete = λ k j r. let l = low k j r in ap (λ (x : ℕ). bit x j) (front-at m w k l) ∙ g .rows k (omega arith) l .complete j r;
+  sound = λ k j e. let l = front-below m w k j e in
+      g .rows k (omega arith) l .sound j (sym (ap (λ (x : ℕ). bit x j) (front-at m w k l)) ∙ e);
+  complete = λ k j r. let l = low k j r in
+      ap (λ (x : ℕ). bit x j) (front-at m w k l) ∙ g .rows k (omega arith) l .complete j r;
 }

@@ -24,8 +24,10 @@ refused-passed e = let z : _≡_ {A = ℕ} 0 1 = cc in omega arith
 
 module _ {T : StringTable} {s : List ℕ} {next : Verdict → Type 0} where
   -- a refusal by a code up to 8 stands whatever comes after
-  pub schema-refused : {v : Verdict} {code place : ℕ} → v ≡ Refused code place → SchemaRefusal T s Passes v → SchemaRefusal T s next v
-  schema-refused {v} e = tries-map (tries-map (tries-map (tries-map (tries-map (tries-map (tries-map (tries-map never)))))))
+  pub schema-refused : {v : Verdict} {code place : ℕ} → v ≡ Refused code place
+      → SchemaRefusal T s Passes v → SchemaRefusal T s next v
+  schema-refused {v} e =
+      tries-map (tries-map (tries-map (tries-map (tries-map (tries-map (tries-map (tries-map never)))))))
     where
       never : v ≡ Passed → next v
       never p = absurd (refused-passed (sym e ∙ p))
@@ -40,26 +42,33 @@ module _ {T : StringTable} {s : List ℕ} {next : Verdict → Type 0} where
 rows-of : {T : StringTable} {s : List ℕ} → SchemaRefusal T s Passes Passed → RowsRight (schemaStrings T) s
 rows-of (goes-on strings (goes-on rows x)) = rows
 
-pub passed-rows : {T : StringTable} {s : List ℕ} {v : Verdict} → v ≡ Passed → SchemaRefusal T s Passes v → RowsRight (schemaStrings T) s
+pub passed-rows : {T : StringTable} {s : List ℕ} {v : Verdict} → v ≡ Passed
+    → SchemaRefusal T s Passes v → RowsRight (schemaStrings T) s
 passed-rows {T} {s} e r = rows-of (subst (SchemaRefusal T s Passes) e r)
 
 -- a refusal has a code from 1 on
-pub tries-coded : {code : ℕ} {P : ℕ → Type 0} {next : Verdict → Type 0} {v : Verdict} → 0 < code → (next v → Coded v) → Tries code P next v → Coded v
+pub tries-coded : {code : ℕ} {P : ℕ → Type 0} {next : Verdict → Type 0} {v : Verdict}
+    → 0 < code → (next v → Coded v) → Tries code P next v → Coded v
 tries-coded h f (refused p x c) = h
 tries-coded h f (goes-on n y) = f y
 
 pub passes-coded : {v : Verdict} → Passes v → Coded v
 passes-coded e = rw e tt
 
-pub schema-coded : {T : StringTable} {s : List ℕ} {next : Verdict → Type 0} {v : Verdict} → (next v → Coded v) → SchemaRefusal T s next v → Coded v
+pub schema-coded : {T : StringTable} {s : List ℕ} {next : Verdict → Type 0} {v : Verdict}
+    → (next v → Coded v) → SchemaRefusal T s next v → Coded v
 schema-coded f =
-    tries-coded (omega arith) (tries-coded (omega arith) (tries-coded (omega arith) (tries-coded (omega arith) (tries-coded (omega arith) (tries-coded (omega arith) (tries-coded (omega arith) (tries-coded (omega arith) f)))))))
+    tries-coded (omega arith)
+    (tries-coded (omega arith) (tries-coded (omega arith) (tries-coded (omega arith) (tries-coded (omega arith)
+    (tries-coded (omega arith) (tries-coded (omega arith) (tries-coded (omega arith) f)))))))
 
 -- code and place of a refusal make it again
-pub refused-same : {v : Verdict} {code place a b : ℕ} → v ≡ Refused code place → a ≡ codeOf v → b ≡ placeOf v → v ≡ Refused a b
+pub refused-same : {v : Verdict} {code place a b : ℕ}
+    → v ≡ Refused code place → a ≡ codeOf v → b ≡ placeOf v → v ≡ Refused a b
 refused-same e f g = rw (f, g, e)
 
-module _ {T : StringTable} {s : List ℕ} {v : Verdict} {code place a b : ℕ} (e : v ≡ Refused code place) (f : a ≡ codeOf v) (g : b ≡ placeOf v) (r : SchemaRefusal T s Passes v) where
+module _ {T : StringTable} {s : List ℕ} {v : Verdict} {code place a b : ℕ} (e : v ≡ Refused code place)
+    (f : a ≡ codeOf v) (g : b ≡ placeOf v) (r : SchemaRefusal T s Passes v) where
   pub refused-as : {next : Verdict → Type 0} → SchemaRefusal T s next (Refused a b)
   refused-as {next} = subst (SchemaRefusal T s next) (refused-same e f g) (schema-refused e r)
 

@@ -49,7 +49,8 @@ module _ (J : Tables) where
     file-is-text : take n out ≡ jobText J
     file-is-text =
         let h = passed (w .refusal) m .1 in
-        rw (w .size, w .holds) (take-take (length (jobText J)) size (jobText J ++ zeros size) h ∙ take-append-seam (jobText J) (zeros size))
+        rw (w .size, w .holds) (take-take (length (jobText J)) size (jobText J ++ zeros size) h
+        ∙ take-append-seam (jobText J) (zeros size))
 
     reads-as : readJob (take n out) ≡ read J
     reads-as = ap readJob file-is-text ∙ round-trip J (passed (w .refusal) m .0)
@@ -57,17 +58,33 @@ module _ (J : Tables) where
   -- tables that fit are given whole
   module _ {room : Room} (long : LongEnough J room) where
     fits-all : fits J room ≡ true
-    fits-all = rw (le-leb _ _ (long .for-bytes), le-leb _ _ (long .for-ends), le-leb _ _ (long .for-schema), le-leb _ _ (long .for-instance))
+    fits-all =
+        rw (
+          le-leb _ _ (long .for-bytes),
+          le-leb _ _ (long .for-ends),
+          le-leb _ _ (long .for-schema),
+          le-leb _ _ (long .for-instance),
+        )
 
     whole : given (read J) room ≡ J
     whole = rw fits-all
 
-    sizes : {reading : Reading} (r : JobRead) → reading ≡ read J → JobAnswer reading room r → r ≡ Read (length (J .strings .bytes)) (length (J .strings .ends)) (rowsOf (J .schema)) (nodesOf (J .instance))
-    sizes (Read bytes strings rows nodes) e a = let q = rw (e, fits-all) at (a .counts) in ap (λ (k : Counts). Read (k .bytes) (k .strings) (k .rows) (k .nodes)) q
+    sizes : {reading : Reading} (r : JobRead) → reading ≡ read J → JobAnswer reading room r
+        → r ≡ Read (length (J .strings .bytes)) (length (J .strings .ends)) (rowsOf (J .schema)) (nodesOf (J .instance))
+    sizes (Read bytes strings rows nodes) e a =
+        let q = rw (e, fits-all) at (a .counts) in
+        ap (λ (k : Counts). Read (k .bytes) (k .strings) (k .rows) (k .nodes)) q
     sizes (NotRead code place) e a = let q = rw (e, fits-all) at (a .code) in let c = a .coded in absurd (omega arith)
 
-    tables-back : {reading : Reading} {bytes ends schema instance : List ℕ} → reading ≡ read J → OutputsHold (given reading room) room bytes ends schema instance → OutputsHold J room bytes ends schema instance
-    tables-back {bytes = bytes} {ends} {schema} {instance} e h = subst (λ (t : Tables). OutputsHold t room bytes ends schema instance) (ap (λ (x : Reading). given x room) e ∙ whole) h
+    tables-back : {reading : Reading} {bytes ends schema instance : List ℕ}
+        → reading ≡ read J → OutputsHold (given reading room) room bytes ends schema instance
+        → OutputsHold J room bytes ends schema instance
+    tables-back {bytes = bytes} {ends} {schema} {instance} e h =
+        subst (λ (t : Tables). OutputsHold t room bytes ends schema instance)
+        (ap (λ (x : Reading). given x room) e ∙ whole) h
 
 pub reads-back : (J : Tables) → RoundTrip J
-reads-back J size n out m w room bytes ends schema instance r long x = record { answer = sizes J long r (reads-as J m w) (x .answer); outputs = tables-back J long (reads-as J m w) (x .outputs) }
+reads-back J size n out m w room bytes ends schema instance r long x = record {
+  answer = sizes J long r (reads-as J m w) (x .answer);
+  outputs = tables-back J long (reads-as J m w) (x .outputs);
+}

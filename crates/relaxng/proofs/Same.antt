@@ -21,15 +21,22 @@ use Rattle.relaxng.proofs.Refused.{refused-passed, tries-coded, passes-
 use Rattle.relaxng.proofs.Matched.{instance-coded}
 
 -- two verdicts of one chain are the same
-tries-same : {code : ℕ} {P : ℕ → Type 0} {next : Verdict → Type 0} {v w : Verdict} → (next v → next w → v ≡ w) → Tries code P next v → Tries code P next w → v ≡ w
-tries-same {code} f (refused p x c) (refused q y d) = ap (Refused code) (⊎-elim (λ l. absurd (d p l x)) (λ l. ⊎-elim (λ k. absurd (c q k y)) (λ k. omega arith) (lt-or-ge q p)) (lt-or-ge p q))
+tries-same : {code : ℕ} {P : ℕ → Type 0} {next : Verdict → Type 0} {v w : Verdict}
+    → (next v → next w → v ≡ w) → Tries code P next v → Tries code P next w → v ≡ w
+tries-same {code} f (refused p x c) (refused q y d) =
+    ap (Refused code) (⊎-elim (λ l. absurd (d p l x))
+    (λ l. ⊎-elim (λ k. absurd (c q k y)) (λ k. omega arith) (lt-or-ge q p)) (lt-or-ge p q))
 tries-same f (refused p x c) (goes-on n y) = absurd (n p x)
 tries-same f (goes-on n x) (refused q y d) = absurd (n q y)
 tries-same f (goes-on n x) (goes-on m y) = f x y
 
-module _ {J : Tables} {room work : ℕ} {l m after after′ : List ℕ} {r q : MatchAnswer} (a : ListsMatches J room work l after r) (b : ListsMatches J room work m after′ q) where
+module _ {J : Tables} {room work : ℕ} {l m after after′ : List ℕ} {r q : MatchAnswer}
+    (a : ListsMatches J room work l after r) (b : ListsMatches J room work m after′ q) where
   same-verdict : matchVerdict r ≡ matchVerdict q
-  same-verdict = tries-same (tries-same (tries-same (tries-same (tries-same (tries-same (tries-same (tries-same (tries-same (tries-same (tries-same (λ x y. x ∙ sym y))))))))))) (a .refusal) (b .refusal)
+  same-verdict =
+      tries-same (tries-same (tries-same (tries-same
+      (tries-same (tries-same (tries-same (tries-same (tries-same (tries-same (tries-same (λ x y. x ∙ sym y)))))))))))
+      (a .refusal) (b .refusal)
 
   module _ (x : Matched J room l r) (y : Matched J room m q) where
     same-pairs : x .pairs ≡ y .pairs
@@ -42,11 +49,13 @@ module _ {J : Tables} {room work : ℕ} {l m after after′ : List ℕ} {r q : M
     same-count = x .written .counted ∙ ap length same-pairs ∙ sym (y .written .counted)
 
 -- a refusal has a code
-coded-code : {J : Tables} {room work c p : ℕ} {l after : List ℕ} → ListsMatches J room work l after (NotMatched c p) → c ≢ 0
+coded-code : {J : Tables} {room work c p : ℕ} {l after : List ℕ}
+    → ListsMatches J room work l after (NotMatched c p) → c ≢ 0
 coded-code a e = let h = instance-coded (tries-coded (omega arith) passes-coded) (a .refusal) in omega arith
 
 -- an answer that refuses nothing is its count and valid or not
-pub same-answer : {J : Tables} {room work : ℕ} {l m after after′ : List ℕ} (r q : MatchAnswer) → ListsMatches J room work l after r → ListsMatches J room work m after′ q → (r ≡ q) × (l ≡ m)
+pub same-answer : {J : Tables} {room work : ℕ} {l m after after′ : List ℕ} (r q : MatchAnswer)
+    → ListsMatches J room work l after r → ListsMatches J room work m after′ q → (r ≡ q) × (l ≡ m)
 same-answer (NotMatched c p) (NotMatched d k) a b =
     let e = same-verdict a b in
     let x : c ≡ d = cc e in
@@ -56,7 +65,19 @@ same-answer (NotMatched c p) (Valid n) a b = absurd (refused-passed (same-verdic
 same-answer (NotMatched c p) (NotValid n) a b = absurd (refused-passed (same-verdict a b))
 same-answer (Valid n) (NotMatched d k) a b = absurd (refused-passed (sym (same-verdict a b)))
 same-answer (NotValid n) (NotMatched d k) a b = absurd (refused-passed (sym (same-verdict a b)))
-same-answer (Valid n) (Valid k) a b = let x = a .matched refl in let y = b .matched refl in (ap Valid (same-count a b x y), same-words a b x y)
-same-answer (NotValid n) (NotValid k) a b = let x = a .matched refl in let y = b .matched refl in (ap NotValid (same-count a b x y), same-words a b x y)
-same-answer (Valid n) (NotValid k) a b = let x = a .matched refl in let y = b .matched refl in absurd (y .written .derived (x .written .derived))
-same-answer (NotValid n) (Valid k) a b = let x = a .matched refl in let y = b .matched refl in absurd (x .written .derived (y .written .derived))
+same-answer (Valid n) (Valid k) a b =
+    let x = a .matched refl in
+    let y = b .matched refl in
+    (ap Valid (same-count a b x y), same-words a b x y)
+same-answer (NotValid n) (NotValid k) a b =
+    let x = a .matched refl in
+    let y = b .matched refl in
+    (ap NotValid (same-count a b x y), same-words a b x y)
+same-answer (Valid n) (NotValid k) a b =
+    let x = a .matched refl in
+    let y = b .matched refl in
+    absurd (y .written .derived (x .written .derived))
+same-answer (NotValid n) (Valid k) a b =
+    let x = a .matched refl in
+    let y = b .matched refl in
+    absurd (x .written .derived (y .written .derived))

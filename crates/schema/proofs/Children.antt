@@ -1,4 +1,4 @@
--- Whether a field names a child, from what the code has read of the row.
+-- Whether a field names a child, which is a smaller row, from what the code has read of the row.
 use mathlib.Core.Path.{_≡_, refl, sym}
 use mathlib.Core.Bool.{Bool, true, false, false≢true}
 use mathlib.Core.Logic.{_⊎_, inl, inr}
@@ -9,11 +9,13 @@ use lib.Dec.{ltb}
 use lib.ListN.{length, List·getD-eq-default}
 use borrow.Author.Tests.{ltb-true}
 use Rattle.tables.proofs.Booleans.{and-left}
-use Rattle.schema.specs.Rows.{rowsOf, kindOf, aOf, bOf, shapeOf, names, namesA, namesB, childA, childB, isPattern, isClass, sortOf}
+use Rattle.schema.specs.Rows.{rowsOf, kindOf, aOf, bOf, shapeOf, names, namesA}
+use Rattle.schema.specs.Rows.{namesB, childA, childB, isPattern, isClass, sortOf}
 use Rattle.schema.specs.Kinds.{noRow}
 use Rattle.schema.specs.Relations.{Child, by-a, by-b}
 use Rattle.schema.specs.declared.Field.{Field}
-use Rattle.schema.specs.declared.Field.the-variants.{Unused, APattern, PatternOrNone, AClass, ClassOrNone, Definition, Datatype, StringNumber, Local}
+use Rattle.schema.specs.declared.Field.the-variants.{Unused, APattern, PatternOrNone, AClass, ClassOrNone}
+use Rattle.schema.specs.declared.Field.the-variants.{Definition, Datatype, StringNumber, Local}
 use Rattle.schema.specs.declared.Shape.{Shape}
 
 module _ (s : List ℕ) (p : ℕ) {k x : ℕ} {shape : Shape} {r : Bool} where

@@ -14,7 +14,8 @@ module _ (step : ℕ → (ℕ → Bool) → Bool) where
   upto-below zero k l = absurd (omega arith)
   upto-below (suc n) k l =
       let le : k ≤ n = omega arith in
-      ⊎-elim (λ e. rw (eq-eqb k n e, e)) (λ lt. rw (ne-eqb k n (λ e. omega arith)) (upto-below n k lt)) (eq-or-lt-of-le le)
+      ⊎-elim (λ e. rw (eq-eqb k n e, e))
+      (λ lt. rw (ne-eqb k n (λ e. omega arith)) (upto-below n k lt)) (eq-or-lt-of-le le)
 
   pub upto-above : (n k : ℕ) → n ≤ k → upto step n k ≡ false
   unfolding upto

@@ -23,27 +23,36 @@ module _ (strings : ℕ) (s : List ℕ) (right : RowsRight strings s) (r : ℕ) 
       go true e = refl
       go false e = absurd (right r (bad-row (h, e)))
 
-  fields : (fieldRight strings s r (shapeOf (kindOf s r) .a) (aOf s r) && fieldRight strings s r (shapeOf (kindOf s r) .b) (bOf s r)) ≡ true
+  fields : (fieldRight strings s r (shapeOf (kindOf s r) .a) (aOf s r)
+      && fieldRight strings s r (shapeOf (kindOf s r) .b) (bOf s r)) ≡ true
   fields = and-both _ (sortRight (sortOf s r) (usesBefore s r (rowsOf s)) (eqb (r + 1) (rowsOf s))) row-right .0
 
-  pub both-fields : (fieldRight strings s r (shapeOf (kindOf s r) .a) (aOf s r) ≡ true) × (fieldRight strings s r (shapeOf (kindOf s r) .b) (bOf s r) ≡ true)
-  both-fields = and-both (fieldRight strings s r (shapeOf (kindOf s r) .a) (aOf s r)) (fieldRight strings s r (shapeOf (kindOf s r) .b) (bOf s r)) fields
+  pub both-fields : (fieldRight strings s r (shapeOf (kindOf s r) .a) (aOf s r) ≡ true)
+      × (fieldRight strings s r (shapeOf (kindOf s r) .b) (bOf s r) ≡ true)
+  both-fields =
+      and-both (fieldRight strings s r (shapeOf (kindOf s r) .a) (aOf s r))
+      (fieldRight strings s r (shapeOf (kindOf s r) .b) (bOf s r)) fields
 
   -- a field that holds a pattern names a child
-  pub pattern-a : (k : ℕ) → kindOf s r ≡ k → shapeOf k .a ≡ APattern → (namesA s r ≡ true) × (isPattern (sortOf s (aOf s r)) ≡ true)
+  pub pattern-a : (k : ℕ) → kindOf s r ≡ k → shapeOf k .a ≡ APattern
+      → (namesA s r ≡ true) × (isPattern (sortOf s (aOf s r)) ≡ true)
   pattern-a k e f =
       let n : names s r APattern (aOf s r) ≡ true = rw (e, f) at (both-fields .0) in
       (rw (e, f) n, and-both (ltb (aOf s r) r) (isPattern (sortOf s (aOf s r))) n .1)
 
-  pub pattern-b : (k : ℕ) → kindOf s r ≡ k → shapeOf k .b ≡ APattern → (namesB s r ≡ true) × (isPattern (sortOf s (bOf s r)) ≡ true)
+  pub pattern-b : (k : ℕ) → kindOf s r ≡ k → shapeOf k .b ≡ APattern
+      → (namesB s r ≡ true) × (isPattern (sortOf s (bOf s r)) ≡ true)
   pattern-b k e f =
       let n : names s r APattern (bOf s r) ≡ true = rw (e, f) at (both-fields .1) in
       (rw (e, f) n, and-both (ltb (bOf s r) r) (isPattern (sortOf s (bOf s r))) n .1)
 
-  pub pattern-or-none : (k : ℕ) → kindOf s r ≡ k → shapeOf k .b ≡ PatternOrNone → (bOf s r ≡ kind.noRow) ⊎ ((namesB s r ≡ true) × (isPattern (sortOf s (bOf s r)) ≡ true))
-  pattern-or-none k e f = go (or-either (eqb (bOf s r) kind.noRow) (names s r PatternOrNone (bOf s r)) (rw (e, f) at (both-fields .1)))
+  pub pattern-or-none : (k : ℕ) → kindOf s r ≡ k → shapeOf k .b ≡ PatternOrNone
+      → (bOf s r ≡ kind.noRow) ⊎ ((namesB s r ≡ true) × (isPattern (sortOf s (bOf s r)) ≡ true))
+  pattern-or-none k e f =
+      go (or-either (eqb (bOf s r) kind.noRow) (names s r PatternOrNone (bOf s r)) (rw (e, f) at (both-fields .1)))
     where
-      go : (eqb (bOf s r) kind.noRow ≡ true) ⊎ (names s r PatternOrNone (bOf s r) ≡ true) → (bOf s r ≡ kind.noRow) ⊎ ((namesB s r ≡ true) × (isPattern (sortOf s (bOf s r)) ≡ true))
+      go : (eqb (bOf s r) kind.noRow ≡ true) ⊎ (names s r PatternOrNone (bOf s r) ≡ true)
+          → (bOf s r ≡ kind.noRow) ⊎ ((namesB s r ≡ true) × (isPattern (sortOf s (bOf s r)) ≡ true))
       go (inl x) = inl (eqb-true _ _ x)
       go (inr n) = inr (rw (e, f) n, and-both (ltb (bOf s r) r) (isPattern (sortOf s (bOf s r))) n .1)
 
@@ -72,7 +81,8 @@ pattern-kind k =
     either P (eqb k kind.attribute) (λ e p. is-attribute (eqb-true _ _ e)) (λ e₅.
     either P (eqb k kind.ref) (λ e p. is-ref (eqb-true _ _ e)) (λ e₆.
     either P (eqb k kind.oneOrMore) (λ e p. is-oneOrMore (eqb-true _ _ e)) (λ e₇.
-    either P (leb kind.choice k && leb k kind.interleave) (λ e p. high (and-both (leb kind.choice k) (leb k kind.interleave) e)) (λ e₈.
+    either P (leb kind.choice k && leb k kind.interleave)
+    (λ e p. high (and-both (leb kind.choice k) (leb k kind.interleave) e)) (λ e₈.
     either P (eqb k kind.anyName) (λ e. never) (λ e₉.
     either P (eqb k kind.nsName) (λ e. never) (λ e₁₀.
     either P (eqb k kind.name) (λ e. never) (λ e₁₁.
@@ -100,4 +110,5 @@ pattern-kind k =
         at : Dec (k ≡ kind.choice) → Dec (k ≡ kind.group) → PatternKind k
         at (yes e) d = is-choice e
         at (no f) (yes e) = is-group e
-        at (no f) (no g) = is-interleave (omega (arith, leb-true kind.choice k (b .0), leb-true k kind.interleave (b .1)))
+        at (no f) (no g) =
+            is-interleave (omega (arith, leb-true kind.choice k (b .0), leb-true k kind.interleave (b .1)))

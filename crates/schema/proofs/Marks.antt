@@ -18,7 +18,8 @@ pub marked-row : (t : List ℕ) (r : ℕ) → Marked t r → r < length t
 marked-row t r m = lt-of-not-le (λ h. omega (arith, List·getD-eq-default t 0 h))
 
 pub adds-none : {P : ℕ → Type 0} (t : List ℕ) → ((r : ℕ) → ¬ P r) → Adds P t t
-adds-none t noRow = record { kept = λ r m. m; added = λ r p. absurd (noRow r p); only = λ r m. inl m; rest = λ r n. refl }
+adds-none t noRow =
+    record { kept = λ r m. m; added = λ r p. absurd (noRow r p); only = λ r m. inl m; rest = λ r n. refl }
 
 -- after a store the marked rows are the old ones and that row, if it is in the table
 pub adds-store : (t : List ℕ) (i : ℕ) → Adds (λ r. (i ≡ r) × (r < length t)) t (set t i 1)
@@ -47,7 +48,8 @@ adds-store t i = go (decLt i (length t))
     }
     go (no h) = rw (set-out t i 1 (omega arith)) (adds-none t (λ r p. let e = p .0 in let l = p .1 in omega arith))
 
-pub adds-same : {P Q : ℕ → Type 0} → ((r : ℕ) → P r → Q r) → ((r : ℕ) → Q r → P r) → {t u : List ℕ} → Adds P t u → Adds Q t u
+pub adds-same : {P Q : ℕ → Type 0} → ((r : ℕ) → P r → Q r)
+    → ((r : ℕ) → Q r → P r) → {t u : List ℕ} → Adds P t u → Adds Q t u
 adds-same to from a = record {
   kept = a .kept;
   added = λ r q. a .added r (from r q);
@@ -56,11 +58,13 @@ adds-same to from a = record {
 }
 
 -- where R holds where P or Q does
-pub adds-both : {P Q R : ℕ → Type 0} → ((r : ℕ) → P r → R r) → ((r : ℕ) → Q r → R r) → ((r : ℕ) → R r → P r ⊎ Q r) → {t u v : List ℕ} → Adds P t u → Adds Q u v → Adds R t v
+pub adds-both : {P Q R : ℕ → Type 0} → ((r : ℕ) → P r → R r) → ((r : ℕ) → Q r → R r)
+    → ((r : ℕ) → R r → P r ⊎ Q r) → {t u v : List ℕ} → Adds P t u → Adds Q u v → Adds R t v
 adds-both left right split a b = record {
   kept = λ r m. b .kept r (a .kept r m);
   added = λ r x. ⊎-elim (λ p. b .kept r (a .added r p)) (λ q. b .added r q) (split r x);
-  only = λ r m. ⊎-elim (λ n. ⊎-elim (λ o. inl o) (λ p. inr (left r p)) (a .only r n)) (λ q. inr (right r q)) (b .only r m);
+  only = λ r m.
+      ⊎-elim (λ n. ⊎-elim (λ o. inl o) (λ p. inr (left r p)) (a .only r n)) (λ q. inr (right r q)) (b .only r m);
   rest = λ r n. b .rest r n ∙ a .rest r (λ m. n (b .kept r m));
 }
 
@@ -77,10 +81,12 @@ pub data PickedChild (s : List ℕ) (p : ℕ) (a b : Bool) (r : ℕ) : Type 0 wh
 
 -- a child, a smaller row or none, is marked where it is wanted, in a table that has a word for each smaller row and
 -- none for that number
-adds-picked : (t : List ℕ) (p child : ℕ) (wanted : Bool) → p ≤ length t → length t ≤ noRow → (child < p) ⊎ (child ≡ noRow) → Adds (Picked p child wanted) t (markIf wanted child t)
+adds-picked : (t : List ℕ) (p child : ℕ) (wanted : Bool) → p ≤ length t → length t ≤ noRow
+    → (child < p) ⊎ (child ≡ noRow) → Adds (Picked p child wanted) t (markIf wanted child t)
 adds-picked t p child false room low row = adds-none t (λ r k. false≢true (k .on))
 adds-picked t p child true room low row =
-    adds-same (λ r k. record { on = refl; is = k .0; less = smaller r k row }) (λ r k. (k .is, let l = k .less in omega arith)) (adds-store t child)
+    adds-same (λ r k. record { on = refl; is = k .0; less = smaller r k row })
+    (λ r k. (k .is, let l = k .less in omega arith)) (adds-store t child)
   where
     smaller : (r : ℕ) → (child ≡ r) × (r < length t) → (child < p) ⊎ (child ≡ noRow) → r < p
     smaller r k (inl h) = let e = k .0 in omega arith
@@ -93,7 +99,8 @@ mark-length false r t = refl
 pub children-length : (s : List ℕ) (p : ℕ) (a b : Bool) (t : List ℕ) → length (childrenMarked s p a b t) ≡ length t
 children-length s p a b t = mark-length b (childB s p) (markIf a (childA s p) t) ∙ mark-length a (childA s p) t
 
-pub adds-children : (s t : List ℕ) (p : ℕ) (a b : Bool) → p ≤ length t → length t ≤ noRow → Adds (PickedChild s p a b) t (childrenMarked s p a b t)
+pub adds-children : (s t : List ℕ) (p : ℕ) (a b : Bool) → p ≤ length t
+    → length t ≤ noRow → Adds (PickedChild s p a b) t (childrenMarked s p a b t)
 adds-children s t p a b room low =
     let l = mark-length a (childA s p) t in
     adds-both (λ r k. picked-a k) (λ r k. picked-b k) split

@@ -10,13 +10,15 @@ use native.Mathlib.Omega.{arith}
 use lib.Dec.{ltb, eqb}
 use borrow.Author.Tests.{eq-eqb, eqb-true}
 use Rattle.tables.proofs.Booleans.{and-left, and-right}
-use Rattle.schema.specs.Rows.{rowsOf, kindOf, aOf, bOf, shapeOf, sortOf, isPattern, isClass, names, namesA, namesB, childA, childB}
+use Rattle.schema.specs.Rows.{rowsOf, kindOf, aOf, bOf, shapeOf, sortOf, isPattern}
+use Rattle.schema.specs.Rows.{isClass, names, namesA, namesB, childA, childB}
 use Rattle.schema.specs.RowRule.{fieldRight, isRow, usesBefore, sortRight, RowsRight}
 use Rattle.schema.specs.Relations.{Child, by-a, by-b, Below, child, deeper}
 use Rattle.schema.specs.declared.Sort.{Sort}
 use Rattle.schema.specs.declared.Sort.the-variants.{Pattern, NameClass, Element, Start, Bad}
 use Rattle.schema.specs.declared.Field.{Field}
-use Rattle.schema.specs.declared.Field.the-variants.{Unused, APattern, PatternOrNone, AClass, ClassOrNone, Definition, Datatype, StringNumber, Local}
+use Rattle.schema.specs.declared.Field.the-variants.{Unused, APattern, PatternOrNone, AClass, ClassOrNone}
+use Rattle.schema.specs.declared.Field.the-variants.{Definition, Datatype, StringNumber, Local}
 use Rattle.schema.proofs.Children.{child-less, child-is}
 use Rattle.schema.proofs.Fields.{row-right}
 use Rattle.schema.proofs.RowLaws.{in-table, right-size}
@@ -31,7 +33,8 @@ module _ (s : List ℕ) (r : ℕ) where
   used zero p h = absurd (omega arith)
   used (suc n) p h = go (used n p) (ℕ-discrete p n)
     where
-      go : (p < n → usesAt p ≤ usesBefore s r n) → Dec (p ≡ n) → usesAt p ≤ usesBefore s r n + isRow r (childA s n) + isRow r (childB s n)
+      go : (p < n → usesAt p ≤ usesBefore s r n) → Dec (p ≡ n)
+          → usesAt p ≤ usesBefore s r n + isRow r (childA s n) + isRow r (childB s n)
       go earlier (yes e) = rw e (omega arith)
       go earlier (no f) = let l = earlier (omega arith) in omega arith
 
@@ -40,7 +43,8 @@ module _ (s : List ℕ) (r : ℕ) where
   used-twice zero p q l h = absurd (omega arith)
   used-twice (suc n) p q l h = go (used-twice n p q l) (ℕ-discrete q n)
     where
-      go : (q < n → usesAt p + usesAt q ≤ usesBefore s r n) → Dec (q ≡ n) → usesAt p + usesAt q ≤ usesBefore s r n + isRow r (childA s n) + isRow r (childB s n)
+      go : (q < n → usesAt p + usesAt q ≤ usesBefore s r n) → Dec (q ≡ n)
+          → usesAt p + usesAt q ≤ usesBefore s r n + isRow r (childA s n) + isRow r (childB s n)
       go earlier (yes e) = let k = used n p (omega arith) in rw e (omega arith)
       go earlier (no f) = let k = earlier (omega arith) in omega arith
 
@@ -55,7 +59,8 @@ module _ (s : List ℕ) (r : ℕ) where
       go (inr e) = omega (arith, by-field (childB s p) e)
 
 -- a child is a pattern or a name class
-named-sort : (s : List ℕ) (p : ℕ) (f : Field) (x : ℕ) → names s p f x ≡ true → (isPattern (sortOf s x) ≡ true) ⊎ (isClass (sortOf s x) ≡ true)
+named-sort : (s : List ℕ) (p : ℕ) (f : Field) (x : ℕ) → names s p f x ≡ true
+    → (isPattern (sortOf s x) ≡ true) ⊎ (isClass (sortOf s x) ≡ true)
 named-sort s p Unused x e = absurd (false≢true e)
 named-sort s p APattern x e = inl (and-right (ltb x p) (isPattern (sortOf s x)) e)
 named-sort s p PatternOrNone x e = inl (and-right (ltb x p) (isPattern (sortOf s x)) e)
@@ -71,7 +76,8 @@ child-sort {s} {r} {p} (by-a n e) = rw e at (named-sort s p (shapeOf (kindOf s p
 child-sort {s} {r} {p} (by-b n e) = rw e at (named-sort s p (shapeOf (kindOf s p) .b) (bOf s p) n)
 
 -- and such a row is used once
-used-once : (x : Sort) (uses : ℕ) (last : Bool) → (isPattern x ≡ true) ⊎ (isClass x ≡ true) → sortRight x uses last ≡ true → uses ≡ 1
+used-once : (x : Sort) (uses : ℕ) (last : Bool)
+    → (isPattern x ≡ true) ⊎ (isClass x ≡ true) → sortRight x uses last ≡ true → uses ≡ 1
 used-once Pattern uses last i e = eqb-true uses 1 (and-left (eqb uses 1) _ e)
 used-once NameClass uses last i e = eqb-true uses 1 (and-left (eqb uses 1) _ e)
 used-once Element uses last (inl i) e = absurd (false≢true i)
@@ -101,23 +107,40 @@ module _ {strings : ℕ} {s : List ℕ} (right : RowsRight strings s) where
   child-uses : {r p : ℕ} → Child s r p → usesBefore s r (rowsOf s) ≡ 1
   child-uses {r} c =
       let i = child-sort c in
-      let fields = fieldRight strings s r (shapeOf (kindOf s r) .a) (aOf s r) && fieldRight strings s r (shapeOf (kindOf s r) .b) (bOf s r) in
-      used-once (sortOf s r) (usesBefore s r (rowsOf s)) (eqb (r + 1) (rowsOf s)) i (and-right fields _ (row-right strings s right r (sorted-row i)))
+      let fields = fieldRight strings s r (shapeOf (kindOf s r) .a) (aOf s r)
+      && fieldRight strings s r (shapeOf (kindOf s r) .b) (bOf s r) in
+      used-once (sortOf s r) (usesBefore s r (rowsOf s)) (eqb (r + 1) (rowsOf s))
+      i (and-right fields _ (row-right strings s right r (sorted-row i)))
 
   pub one-parent : {r p q : ℕ} → Child s r p → Child s r q → p ≡ q
   one-parent {r} {p} {q} c d = go (ℕ-discrete p q) (decLt p q)
     where
       go : Dec (p ≡ q) → Dec (p < q) → p ≡ q
       go (yes e) l = e
-      go (no f) (yes l) = absurd (omega (arith, child-uses c, used-twice s r (rowsOf s) p q l (parent-row d), child-used s r c, child-used s r d))
-      go (no f) (no l) = absurd (omega (arith, child-uses c, used-twice s r (rowsOf s) q p (omega arith) (parent-row c), child-used s r c, child-used s r d))
+      go (no f) (yes l) =
+          absurd (omega
+          (arith, child-uses c, used-twice s r (rowsOf s) p q l (parent-row d), child-used s r c, child-used s r d))
+      go (no f) (no l) =
+          absurd (omega (
+            arith,
+            child-uses c,
+            used-twice s r (rowsOf s) q p (omega arith) (parent-row c),
+            child-used s r c,
+            child-used s r d,
+          ))
 
   -- the two fields of a row name two rows
   pub two-children : (p : ℕ) → namesA s p ≡ true → namesB s p ≡ true → aOf s p ≢ bOf s p
   two-children p m n e =
       let a : childA s p ≡ aOf s p = rw m in
       let b : childB s p ≡ aOf s p = rw (n, e) in
-      omega (arith, child-uses (by-a m refl), used s (aOf s p) (rowsOf s) p (parent-row (by-a m refl)), by-field s (aOf s p) (childA s p) a, by-field s (aOf s p) (childB s p) b)
+      omega (
+        arith,
+        child-uses (by-a m refl),
+        used s (aOf s p) (rowsOf s) p (parent-row (by-a m refl)),
+        by-field s (aOf s p) (childA s p) a,
+        by-field s (aOf s p) (childB s p) b,
+      )
 
 -- a is i or above it, step by step from i up
 pub data Upward (s : List ℕ) (a : ℕ) : ℕ → Type 0 where

@@ -22,7 +22,8 @@ module _ (s : List ℕ) (p : ℕ) where
   unfolding patternBy
   data-at e f = rw (e, eq-eqb (bOf s p) kind.noRow f)
 
-  pub except-at : kindOf s p ≡ kind.«data» → bOf s p ≢ kind.noRow → patternOf s p ≡ pattern.dataExcept (aOf s p) (bOf s p)
+  pub except-at : kindOf s p ≡ kind.«data» → bOf s p ≢ kind.noRow
+      → patternOf s p ≡ pattern.dataExcept (aOf s p) (bOf s p)
   unfolding patternBy
   except-at e f = rw (e, ne-eqb (bOf s p) kind.noRow f)
 

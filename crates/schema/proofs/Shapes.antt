@@ -36,7 +36,8 @@ shape-binary k l h =
 -- none of the single kinds, as the rest of a match says it
 abbrev pub NotSingle : ℕ → Type 0
 NotSingle k =
-    (((((((((((Unit {0} × (k ≢ kind.«data»)) × (k ≢ kind.value)) × (k ≢ kind.list)) × (k ≢ kind.attribute)) × (k ≢ kind.ref)) × (k ≢ kind.oneOrMore)) × (k ≢ kind.anyName)) × (k ≢ kind.nsName))
+    (((((((((((Unit {0} × (k ≢ kind.«data»)) × (k ≢ kind.value)) × (k ≢ kind.list)) × (k ≢ kind.attribute))
+    × (k ≢ kind.ref)) × (k ≢ kind.oneOrMore)) × (k ≢ kind.anyName)) × (k ≢ kind.nsName))
     × (k ≢ kind.name)) × (k ≢ kind.nameChoice)) × (k ≢ kind.element)) × (k ≢ kind.start)
 
 pub past-oneOrMore : (k : ℕ) → kind.text < k → NotSingle k → kind.choice ≤ k
@@ -51,7 +52,8 @@ past-oneOrMore k l o =
     omega arith
 
 -- and in none of the ranges
-pub shape-bad : (k : ℕ) → (k < kind.empty) ⊎ (kind.text < k) → (k < kind.choice) ⊎ (kind.interleave < k) → NotSingle k → shapeOf k ≡ shape Bad Unused Unused
+pub shape-bad : (k : ℕ) → (k < kind.empty) ⊎ (kind.text < k)
+    → (k < kind.choice) ⊎ (kind.interleave < k) → NotSingle k → shapeOf k ≡ shape Bad Unused Unused
 unfolding shapeOf
 shape-bad k p q o =
     let o₁ = o .0 .0 .0 .0 .0 .0 in

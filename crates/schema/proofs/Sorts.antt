@@ -66,8 +66,10 @@ is-start uses of-bad e = absurd (false≢true e)
 module _ (strings : ℕ) (s : List ℕ) (right : RowsRight strings s) (r : ℕ) (h : r < rowsOf s) where
   pub last-kind : r + 1 ≡ rowsOf s → kindOf s r ≡ kind.start
   last-kind e =
-      let fields = fieldRight strings s r (shapeOf (kindOf s r) .a) (aOf s r) && fieldRight strings s r (shapeOf (kindOf s r) .b) (bOf s r) in
-      let t = and-both fields (sortRight (sortOf s r) (usesBefore s r (rowsOf s)) (eqb (r + 1) (rowsOf s))) (row-right strings s right r h) .1 in
+      let fields = fieldRight strings s r (shapeOf (kindOf s r) .a) (aOf s r)
+      && fieldRight strings s r (shapeOf (kindOf s r) .b) (bOf s r) in
+      let t = and-both fields (sortRight (sortOf s r) (usesBefore s r (rowsOf s)) (eqb (r + 1) (rowsOf s)))
+      (row-right strings s right r h) .1 in
       is-start (usesBefore s r (rowsOf s)) (kind-of (kindOf s r)) (rw (eq-eqb (r + 1) (rowsOf s) e) at t)
 
   pub class-a : (k : ℕ) → kindOf s r ≡ k → shapeOf k .a ≡ AClass → namesA s r ≡ true

@@ -1,4 +1,4 @@
--- The least of the names on the grid is the least of all.
+-- The least of the names on the grid, of the numbers mentioned and the least not mentioned, is the least of all.
 use Prim.Native.Nat.{ℕ, _≤_, _<_}
 use mathlib.Core.Path.{_≡_, refl, sym, _∙_}
 use mathlib.Core.Bool.{true, false, false≢true}
@@ -25,7 +25,8 @@ use Rattle.schema_classes.proofs.Holds.{holds-other}
 use Rattle.schema_classes.proofs.SmallModel.{same-in-class}
 
 -- a common name that is not after any other is the least
-pub least-of-all : (s : List ℕ) (c d : ℕ) (r : Found) → Sound s c d r → ((v k : ℕ) → Common s c d v k → Covers r v k) → LeastCommon s c d r
+pub least-of-all : (s : List ℕ) (c d : ℕ) (r : Found) → Sound s c d r
+    → ((v k : ℕ) → Common s c d v k → Covers r v k) → LeastCommon s c d r
 least-of-all s c d (Name u l) h t = (h, t)
 least-of-all s c d Nothing h t = t
 
@@ -40,17 +41,22 @@ in-table s u l c h e = go (decLt c markedRows)
     go (yes k) = k
     go (no n) =
         let z : kindOf s c ≡ 0 = past s c h n in
-        absurd (false≢true (sym (holds-other s u l c (record { kind = refl; first = refl; second = refl }) (λ f. omega arith) (λ f. omega arith) (λ f. omega arith) (λ f. omega arith)) ∙ e))
+        absurd (false≢true (sym (holds-other s u l c (record { kind = refl; first = refl; second = refl })
+        (λ f. omega arith) (λ f. omega arith) (λ f. omega arith) (λ f. omega arith)) ∙ e))
 
 -- for each common name one of the grid is common and not after it
-module _ (s m us ls : List ℕ) (c d i j : ℕ) (rows : rowsOf s ≤ maxRows) (size : length m ≡ markedRows) (closed : (p r : ℕ) → Marked m p → Child s r p → Marked m r) (first : c < markedRows → Marked m c) (second : d < markedRows → Marked m d) (spaces : Candidates s m Namespace us i) (locals : Candidates s m Local ls j) where
-  on-grid : {v k : ℕ} (x : Stands s m Namespace us i v) (y : Stands s m Local ls j k) → 0 < k → Common s c d v k → Common s c d (x .by) (y .by)
+module _ (s m us ls : List ℕ) (c d i j : ℕ) (rows : rowsOf s ≤ maxRows) (size : length m ≡ markedRows)
+    (closed : (p r : ℕ) → Marked m p → Child s r p → Marked m r) (first : c < markedRows → Marked m c) (second : d
+    < markedRows → Marked m d) (spaces : Candidates s m Namespace us i) (locals : Candidates s m Local ls j) where
+  on-grid : {v k : ℕ} (x : Stands s m Namespace us i v) (y : Stands s m Local ls j k)
+      → 0 < k → Common s c d v k → Common s c d (x .by) (y .by)
   on-grid {v} {k} x y l h = record { first = member c first (h .first); second = member d second (h .second) }
     where
       member : (e : ℕ) → (e < markedRows → Marked m e) → inClass s v k e ≡ true → inClass s (x .by) (y .by) e ≡ true
       member e marked h =
           let g = and-both (ltb 0 k) (holds s v k e) h in
-          sym (same-in-class s m v k (x .by) (y .by) closed (omega arith) (x .alike) (y .alike) e (marked (in-table s v k e rows (g .1))) l (y .low)) ∙ h
+          sym (same-in-class s m v k (x .by) (y .by) closed (omega arith) (x .alike)
+          (y .alike) e (marked (in-table s v k e rows (g .1))) l (y .low)) ∙ h
 
   not-after : {v k : ℕ} (x : Stands s m Namespace us i v) (y : Stands s m Local ls j k) → NotAfter (x .by) (y .by) v k
   not-after {v} {k} x y = go (decLt (x .by) v)

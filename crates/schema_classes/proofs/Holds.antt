@@ -30,7 +30,8 @@ module _ (s : List ℕ) (u l row : ℕ) where
       unfolding holds classBy
       holds-anyName e = rw (sym (read .kind) ∙ e, ← read .first) (go (eqb a kind.noRow) refl)
         where
-          go : (t : Bool) → eqb a kind.noRow ≡ t → memberBy (upto (step s u l) row) u l (cond t anyName (anyNameExcept a)) ≡ not (upto (step s u l) row a)
+          go : (t : Bool) → eqb a kind.noRow ≡ t
+              → memberBy (upto (step s u l) row) u l (cond t anyName (anyNameExcept a)) ≡ not (upto (step s u l) row a)
           go true f = let g = eqb-true a kind.noRow f in rw (upto-above (step s u l) row a (omega arith))
           go false f = refl
 
@@ -38,8 +39,11 @@ module _ (s : List ℕ) (u l row : ℕ) where
       unfolding holds classBy
       holds-nsName e = rw (sym (read .kind) ∙ e, ← read .first, ← read .second) (go (eqb b kind.noRow) refl)
         where
-          go : (t : Bool) → eqb b kind.noRow ≡ t → memberBy (upto (step s u l) row) u l (cond t (nsName a) (nsNameExcept a b)) ≡ (eqb u a && not (upto (step s u l) row b))
-          go true f = let g = eqb-true b kind.noRow f in rw (upto-above (step s u l) row b (omega arith)) (sym (and-true (eqb u a)))
+          go : (t : Bool) → eqb b kind.noRow ≡ t → memberBy (upto (step s u l) row) u l
+              (cond t (nsName a) (nsNameExcept a b)) ≡ (eqb u a && not (upto (step s u l) row b))
+          go true f =
+              let g = eqb-true b kind.noRow f in
+              rw (upto-above (step s u l) row b (omega arith)) (sym (and-true (eqb u a)))
           go false f = refl
 
     pub holds-name : k ≡ kind.name → holds s u l row ≡ (eqb u a && eqb l b)
@@ -50,6 +54,14 @@ module _ (s : List ℕ) (u l row : ℕ) where
     unfolding holds classBy
     holds-nameChoice e = rw (read .first, read .second, sym (read .kind) ∙ e)
 
-    pub holds-other : (k ≡ kind.anyName → ⊥) → (k ≡ kind.nsName → ⊥) → (k ≡ kind.name → ⊥) → (k ≡ kind.nameChoice → ⊥) → holds s u l row ≡ false
+    pub holds-other : (k ≡ kind.anyName → ⊥) → (k ≡ kind.nsName → ⊥)
+        → (k ≡ kind.name → ⊥) → (k ≡ kind.nameChoice → ⊥) → holds s u l row ≡ false
     unfolding holds classBy
-    holds-other p q r t = rw (← read .kind, ne-eqb k kind.anyName p, ne-eqb k kind.nsName q, ne-eqb k kind.name r, ne-eqb k kind.nameChoice t)
+    holds-other p q r t =
+        rw (
+          ← read .kind,
+          ne-eqb k kind.anyName p,
+          ne-eqb k kind.nsName q,
+          ne-eqb k kind.name r,
+          ne-eqb k kind.nameChoice t,
+        )

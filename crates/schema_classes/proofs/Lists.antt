@@ -29,7 +29,11 @@ listed-dec xs (suc n) v = go (listed-dec xs n v) (ℕ-discrete (getD xs n 0) v)
 module _ (xs : List ℕ) (n x : ℕ) where
   pub listed-kept : {v : ℕ} → Among xs n v → Among (set xs n x) (n + 1) v
   listed-kept l =
-      record { at = l .at; before = omega (arith, l .before); is = getD-set-other xs n (l .at) x 0 (λ e. omega (arith, l .before)) ∙ l .is }
+      record {
+        at = l .at;
+        before = omega (arith, l .before);
+        is = getD-set-other xs n (l .at) x 0 (λ e. omega (arith, l .before)) ∙ l .is;
+      }
 
   pub listed-last : n < length xs → Among (set xs n x) (n + 1) x
   listed-last h = record { at = n; before = omega arith; is = getD-set-same xs n x 0 h }
@@ -59,7 +63,11 @@ crowded (suc n) f h = crowded n moved taken
             pick : Dec (t .at ≡ top .at) → Dec (t .at ≡ n) → Taken moved n x
             pick (yes e) d = absurd (omega (arith, sym (t .is) ∙ ap f e ∙ top .is))
             pick (no e) (yes g) =
-                record { at = top .at; before = omega (arith, top .before); is = rw (eq-eqb (top .at) (top .at) refl, ← g) (t .is) }
+                record {
+                  at = top .at;
+                  before = omega (arith, top .before);
+                  is = rw (eq-eqb (top .at) (top .at) refl, ← g) (t .is);
+                }
             pick (no e) (no g) =
                 record { at = t .at; before = omega (arith, t .before); is = rw (ne-eqb (t .at) (top .at) e) (t .is) }
 
@@ -69,7 +77,8 @@ few xs n from x h = go (decLt (from + n) x)
   where
     go : Dec (from + n < x) → x ≤ from + n
     go (no l) = omega arith
-    go (yes l) = absurd (crowded n (λ i. getD xs i 0 - from) (λ y k. taken y k (h (from + y) (omega arith) (omega arith))))
+    go (yes l) =
+        absurd (crowded n (λ i. getD xs i 0 - from) (λ y k. taken y k (h (from + y) (omega arith) (omega arith))))
       where
         taken : (y : ℕ) → y ≤ n → Among xs n (from + y) → Taken (λ i. getD xs i 0 - from) n y
         taken y k l = record { at = l .at; before = l .before; is = omega (arith, l .is) }
@@ -85,7 +94,10 @@ module _ {xs : List ℕ} {n from : ℕ} where
 
   pub counting-step : {x : ℕ} → Counting xs n from x → Among xs n x → Counting xs n from (x + 1)
   counting-step {x} a l =
-      record { low = omega (arith, a .low); least = λ v h k. below-more (λ v. from ≤ v → Among xs n v) x (λ v i j. a .least v j i) (λ _. l) v k h }
+      record {
+        low = omega (arith, a .low);
+        least = λ v h k. below-more (λ v. from ≤ v → Among xs n v) x (λ v i j. a .least v j i) (λ _. l) v k h;
+      }
 
   -- the numbers passed are listed, so they are no more than n
   pub counting-ends : {x : ℕ} → Counting xs n from x → Among xs n x → x < from + n

@@ -23,14 +23,20 @@ pub record Closing (s m₀ m : List ℕ) (q : ℕ) : Type 0 where
   pub closed : (p r : ℕ) → q ≤ p → Marked m p → Child s r p → Marked m r
 
 pub closing-start : (s m : List ℕ) → length m ≡ markedRows → Closing s m m markedRows
-closing-start s m e = record { size = e; low = omega arith; kept = λ r h. h; closed = λ p r l h k. absurd (omega (arith, marked-row m p h)) }
+closing-start s m e = record {
+  size = e;
+  low = omega arith;
+  kept = λ r h. h;
+  closed = λ p r l h k. absurd (omega (arith, marked-row m p h));
+}
 
 pub closing-done : {s m₀ m : List ℕ} {q : ℕ} → Closing s m₀ m q → q ≤ 0 → Closure s m₀ m
 closing-done i l = record { kept = i .kept; closed = λ p r. i .closed p r (omega arith) }
 
 -- a row marks its children where it is marked itself; these are smaller rows, so that the rows from it on keep their
 -- marks
-pub closing-step : {s m₀ m : List ℕ} {q : ℕ} → Closing s m₀ m q → 0 < q → {on : Bool} → on ≡ eqb (getD m (q - 1) 0) 1 → Closing s m₀ (childrenMarked s (q - 1) on on m) (q - 1)
+pub closing-step : {s m₀ m : List ℕ} {q : ℕ} → Closing s m₀ m q → 0 < q → {on : Bool}
+    → on ≡ eqb (getD m (q - 1) 0) 1 → Closing s m₀ (childrenMarked s (q - 1) on on m) (q - 1)
 closing-step {s} {m₀} {m} {q} i more {on} is = record {
   size = children-length s p on on m ∙ i .size;
   low = omega (arith, i .low);
@@ -50,18 +56,21 @@ closing-step {s} {m₀} {m} {q} i more {on} is = record {
 
     own : {r : ℕ} → Marked m p → Child s r p → PickedChild s p on on r
     own h k = let on-true : on ≡ true = is ∙ eq-eqb (getD m p 0) 1 h in
-        ⊎-elim (λ e. picked-a (record { on = on-true; is = e; less = child-less k })) (λ e. picked-b (record { on = on-true; is = e; less = child-less k })) (child-is k)
+        ⊎-elim (λ e. picked-a (record { on = on-true; is = e; less = child-less k }))
+        (λ e. picked-b (record { on = on-true; is = e; less = child-less k })) (child-is k)
 
     child : (o r : ℕ) → p ≤ o → Marked m o → Child s r o → Dec (o ≡ p) → Marked (childrenMarked s p on on m) r
     child o r l h k (yes e) = adds .added r (own (rw e at h) (rw e at k))
     child o r l h k (no n) = adds .kept r (i .closed o r (omega arith) h k)
 
 -- two rows that were marked before the pass are marked after it
-pub two-marked : {s m₁ m₂ m : List ℕ} (m₀ : List ℕ) (c d : ℕ) → length m₀ ≡ markedRows → m₁ ≡ set m₀ c 1 → m₂ ≡ set m₁ d 1 → Closure s m₂ m → (c < markedRows → Marked m c) × (d < markedRows → Marked m d)
+pub two-marked : {s m₁ m₂ m : List ℕ} (m₀ : List ℕ) (c d : ℕ) → length m₀ ≡ markedRows → m₁ ≡ set m₀ c 1
+    → m₂ ≡ set m₁ d 1 → Closure s m₂ m → (c < markedRows → Marked m c) × (d < markedRows → Marked m d)
 two-marked {m = m} m₀ c d size e f close = (first, second)
   where
     first : c < markedRows → Marked m c
-    first h = close .kept c (rw (f, e) (adds-store (set m₀ c 1) d .kept c (adds-store m₀ c .added c (refl, omega arith))))
+    first h =
+        close .kept c (rw (f, e) (adds-store (set m₀ c 1) d .kept c (adds-store m₀ c .added c (refl, omega arith))))
 
     second : d < markedRows → Marked m d
     second h = close .kept d (rw (f, e) (adds-store (set m₀ c 1) d .added d (refl, simp length-set (omega arith))))

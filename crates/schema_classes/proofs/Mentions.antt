@@ -9,7 +9,8 @@ use borrow.Author.Count.{below-more}
 use borrow.Author.Tests.{ne-eqb}
 use Rattle.schema.specs.Marks.{Marked}
 use Rattle.schema.proofs.Marks.{marked-row}
-use Rattle.schema_classes.specs.Search.{markedRows, mentionOf, leastOf, Among, MentionAdded, Mentioned, Fresh, Stands, Candidates}
+use Rattle.schema_classes.specs.Search.{markedRows, mentionOf, leastOf, Among}
+use Rattle.schema_classes.specs.Search.{MentionAdded, Mentioned, Fresh, Stands, Candidates}
 use Rattle.schema_classes.specs.declared.Mention.the-variants.{Of, NoMention}
 use Rattle.schema_classes.specs.declared.NamePart.{NamePart}
 use Rattle.schema_classes.specs.declared.NamePart.the-variants.{Namespace, Local}
@@ -53,15 +54,18 @@ module _ {s m : List ℕ} {part : NamePart} where
   pub mentions-start : {xs : List ℕ} → length xs ≡ markedRows + 1 → Mentioning s m part xs 0 0
   mentions-start {xs} e = record { size = e; most = omega arith; end = omega arith; all = λ q l. absurd (omega arith) }
 
-  pub mentions-step : {xs xs′ : List ℕ} {n n′ r : ℕ} → Mentioning s m part xs n r → r < markedRows → length xs′ ≡ length xs → MentionAdded s m part r xs n xs′ n′ → Mentioning s m part xs′ n′ (r + 1)
+  pub mentions-step : {xs xs′ : List ℕ} {n n′ r : ℕ} → Mentioning s m part xs n r → r < markedRows
+      → length xs′ ≡ length xs → MentionAdded s m part r xs n xs′ n′ → Mentioning s m part xs′ n′ (r + 1)
   mentions-step {xs} {xs′} {n} {n′} {r} a h e b = record {
     size = e ∙ a .size;
     most = omega (arith, a .most, b .most);
     end = omega arith;
-    all = below-more (λ q. (v : ℕ) → Marked m q → mentionOf s q part ≡ Of v → Among xs′ n′ v) r (λ q l v k f. b .kept v (a .all q l v k f)) (b .added);
+    all = below-more (λ q. (v : ℕ) → Marked m q → mentionOf s q part ≡ Of v → Among xs′ n′ v)
+        r (λ q l v k f. b .kept v (a .all q l v k f)) (b .added);
   }
 
-  pub mentions-done : {xs : List ℕ} {n r : ℕ} → Mentioning s m part xs n r → length m ≡ markedRows → markedRows ≤ r → Mentioned s m part xs n
+  pub mentions-done : {xs : List ℕ} {n r : ℕ} → Mentioning s m part xs n r
+      → length m ≡ markedRows → markedRows ≤ r → Mentioned s m part xs n
   mentions-done a e h = record {
     most = omega (arith, a .most, a .end);
     all = λ q v k f. a .all q (omega (arith, marked-row m q k)) v k f;
@@ -69,17 +73,20 @@ module _ {s m : List ℕ} {part : NamePart} where
 
   -- v stands for itself if it is listed; if not, the least number that is not listed stands for it, and neither is
   -- mentioned
-  pub candidates : {xs : List ℕ} {n x : ℕ} → Mentioned s m part xs n → n < length xs → Fresh xs n (leastOf part) x → Candidates s m part (set xs n x) (n + 1)
+  pub candidates : {xs : List ℕ} {n x : ℕ} → Mentioned s m part xs n → n < length xs
+      → Fresh xs n (leastOf part) x → Candidates s m part (set xs n x) (n + 1)
   candidates {xs} {n} {x} a h f v low = go (listed-dec xs n v)
     where
       go : Dec (Among xs n v) → Stands s m part (set xs n x) (n + 1) v
-      go (yes l) = record { by = v; listed = listed-kept xs n x l; low = low; most = omega arith; alike = λ r y k e. refl }
+      go (yes l) =
+          record { by = v; listed = listed-kept xs n x l; low = low; most = omega arith; alike = λ r y k e. refl }
       go (no l) = record {
         by = x;
         listed = listed-last xs n x h;
         low = f .low;
         most = below (decLt v x);
-        alike = λ r y k e. ne-eqb v y (other v l (a .all r y k e)) ∙ sym (ne-eqb x y (other x (f .new) (a .all r y k e)));
+        alike = λ r y k e.
+            ne-eqb v y (other v l (a .all r y k e)) ∙ sym (ne-eqb x y (other x (f .new) (a .all r y k e)));
       }
         where
           below : Dec (v < x) → x ≤ v

@@ -21,7 +21,8 @@ use Rattle.schema_classes.specs.Search.{mentionOf}
 use Rattle.schema_classes.specs.declared.Mention.the-variants.{Of}
 use Rattle.schema_classes.specs.declared.NamePart.{NamePart}
 use Rattle.schema_classes.specs.declared.NamePart.the-variants.{Namespace, Local}
-use Rattle.schema_classes.proofs.Holds.{step, Read, holds-anyName, holds-nsName, holds-name, holds-nameChoice, holds-other}
+use Rattle.schema_classes.proofs.Holds.{step, Read, holds-anyName, holds-nsName}
+use Rattle.schema_classes.proofs.Holds.{holds-name, holds-nameChoice, holds-other}
 
 -- a row of another sort is no class, and holds nothing
 class-kind : (k j : ℕ) → isClass (shapeOf j .sort) ≡ true → isClass (shapeOf k .sort) ≡ false → k ≡ j → ⊥
@@ -31,7 +32,8 @@ no-class : (s : List ℕ) (u l r : ℕ) → isClass (sortOf s r) ≡ false → h
 unfolding shapeOf
 no-class s u l r n =
     holds-other s u l r (record { kind = refl; first = refl; second = refl })
-    (class-kind (kindOf s r) kind.anyName refl n) (class-kind (kindOf s r) kind.nsName refl n) (class-kind (kindOf s r) kind.name refl n) (class-kind (kindOf s r) kind.nameChoice refl n)
+    (class-kind (kindOf s r) kind.anyName refl n) (class-kind (kindOf s r) kind.nsName refl n)
+    (class-kind (kindOf s r) kind.name refl n) (class-kind (kindOf s r) kind.nameChoice refl n)
 
 -- the two numbers are alike to every marked row that mentions such a part
 abbrev pub Alike : List ℕ → List ℕ → NamePart → ℕ → ℕ → Type 0
@@ -39,28 +41,36 @@ Alike s m part v w = (r x : ℕ) → Marked m r → mentionOf s r part ≡ Of x 
 
 -- a smaller row that is a class, in a field that can name one, is a child
 module _ (s : List ℕ) (c k : ℕ) where
-  child-a : ((x : ℕ) → names s c (shapeOf k .a) x ≡ (ltb x c && isClass (sortOf s x))) → kindOf s c ≡ k → aOf s c < c → isClass (sortOf s (aOf s c)) ≡ true → Child s (aOf s c) c
+  child-a : ((x : ℕ) → names s c (shapeOf k .a) x ≡ (ltb x c && isClass (sortOf s x)))
+      → kindOf s c ≡ k → aOf s c < c → isClass (sortOf s (aOf s c)) ≡ true → Child s (aOf s c) c
   child-a f e l h = by-a (rw e (f (aOf s c) ∙ rw (lt-ltb (aOf s c) c l, h))) refl
 
-  child-b : ((x : ℕ) → names s c (shapeOf k .b) x ≡ (ltb x c && isClass (sortOf s x))) → kindOf s c ≡ k → bOf s c < c → isClass (sortOf s (bOf s c)) ≡ true → Child s (bOf s c) c
+  child-b : ((x : ℕ) → names s c (shapeOf k .b) x ≡ (ltb x c && isClass (sortOf s x)))
+      → kindOf s c ≡ k → bOf s c < c → isClass (sortOf s (bOf s c)) ≡ true → Child s (bOf s c) c
   child-b f e l h = by-b (rw e (f (bOf s c) ∙ rw (lt-ltb (bOf s c) c l, h))) refl
 
 module _ (s m : List ℕ) (u l u′ l′ : ℕ) where
   -- a field of row c, by what the classes at smaller rows hold
-  below : (c x : ℕ) → (x < c → Marked m x → holds s u l x ≡ holds s u′ l′ x) → (x < c → isClass (sortOf s x) ≡ true → Marked m x) → upto (step s u l) c x ≡ upto (step s u′ l′) c x
+  below : (c x : ℕ) → (x < c → Marked m x → holds s u l x ≡ holds s u′ l′ x)
+      → (x < c → isClass (sortOf s x) ≡ true → Marked m x) → upto (step s u l) c x ≡ upto (step s u′ l′) c x
   unfolding holds
   below c x same marked = go (decLt x c) (isClass (sortOf s x)) refl
     where
       go : Dec (x < c) → (t : Bool) → isClass (sortOf s x) ≡ t → upto (step s u l) c x ≡ upto (step s u′ l′) c x
       go (yes h) true e = upto-below (step s u l) c x h ∙ same h (marked h e) ∙ sym (upto-below (step s u′ l′) c x h)
       go (yes h) false e =
-          upto-below (step s u l) c x h ∙ no-class s u l x e ∙ sym (no-class s u′ l′ x e) ∙ sym (upto-below (step s u′ l′) c x h)
+          upto-below (step s u l) c x h ∙ no-class s u l x e
+          ∙ sym (no-class s u′ l′ x e) ∙ sym (upto-below (step s u′ l′) c x h)
       go (no h) t e = upto-above (step s u l) c x (omega arith) ∙ sym (upto-above (step s u′ l′) c x (omega arith))
 
-  module _ (closed : (p r : ℕ) → Marked m p → Child s r p → Marked m r) (low : length m ≤ kind.noRow) (spaces : Alike s m Namespace u u′) (locals : Alike s m Local l l′) where
-    by-kind : (c : ℕ) → Marked m c → ((x : ℕ) → x < c → Marked m x → holds s u l x ≡ holds s u′ l′ x) → holds s u l c ≡ holds s u′ l′ c
+  module _ (closed : (p r : ℕ) → Marked m p → Child s r p → Marked m r) (low : length m ≤ kind.noRow)
+      (spaces : Alike s m Namespace u u′) (locals : Alike s m Local l l′) where
+    by-kind : (c : ℕ) → Marked m c → ((x : ℕ) → x < c → Marked m x → holds s u l x ≡ holds s u′ l′ x)
+        → holds s u l c ≡ holds s u′ l′ c
     unfolding shapeOf
-    by-kind c h same = go (ℕ-discrete (kindOf s c) kind.anyName) (ℕ-discrete (kindOf s c) kind.nsName) (ℕ-discrete (kindOf s c) kind.name) (ℕ-discrete (kindOf s c) kind.nameChoice)
+    by-kind c h same =
+        go (ℕ-discrete (kindOf s c) kind.anyName) (ℕ-discrete (kindOf s c) kind.nsName)
+        (ℕ-discrete (kindOf s c) kind.name) (ℕ-discrete (kindOf s c) kind.nameChoice)
       where
         read : Read s c (kindOf s c) (aOf s c) (bOf s c)
         read = record { kind = refl; first = refl; second = refl }
@@ -68,14 +78,19 @@ module _ (s m : List ℕ) (u l u′ l′ : ℕ) where
         fits : c ≤ kind.noRow
         fits = omega (arith, marked-row m c h)
 
-        at : (x : ℕ) → (x < c → isClass (sortOf s x) ≡ true → Child s x c) → upto (step s u l) c x ≡ upto (step s u′ l′) c x
+        at : (x : ℕ) → (x < c → isClass (sortOf s x) ≡ true → Child s x c)
+            → upto (step s u l) c x ≡ upto (step s u′ l′) c x
         at x child = below c x (same x) (λ k e. closed c x h (child k e))
 
-        go : Dec (kindOf s c ≡ kind.anyName) → Dec (kindOf s c ≡ kind.nsName) → Dec (kindOf s c ≡ kind.name) → Dec (kindOf s c ≡ kind.nameChoice) → holds s u l c ≡ holds s u′ l′ c
-        go (yes k) d e f = holds-anyName s u l c read fits k ∙ ap not (at (aOf s c) (child-a s c kind.anyName (λ x. refl) k)) ∙ sym (holds-anyName s u′ l′ c read fits k)
+        go : Dec (kindOf s c ≡ kind.anyName) → Dec (kindOf s c ≡ kind.nsName) → Dec (kindOf s c ≡ kind.name)
+            → Dec (kindOf s c ≡ kind.nameChoice) → holds s u l c ≡ holds s u′ l′ c
+        go (yes k) d e f =
+            holds-anyName s u l c read fits k ∙ ap not (at (aOf s c) (child-a s c kind.anyName (λ x. refl) k))
+            ∙ sym (holds-anyName s u′ l′ c read fits k)
         go (no i) (yes k) e f =
             holds-nsName s u l c read fits k
-            ∙ ap₂ (λ x y. x && not y) (spaces c (aOf s c) h (rw k)) (at (bOf s c) (child-b s c kind.nsName (λ x. refl) k))
+            ∙ ap₂ (λ x y. x && not y) (spaces c (aOf s c) h (rw k))
+            (at (bOf s c) (child-b s c kind.nsName (λ x. refl) k))
             ∙ sym (holds-nsName s u′ l′ c read fits k)
         go (no i) (no j) (yes k) f =
             holds-name s u l c read k
@@ -83,7 +98,8 @@ module _ (s m : List ℕ) (u l u′ l′ : ℕ) where
             ∙ sym (holds-name s u′ l′ c read k)
         go (no i) (no j) (no o) (yes k) =
             holds-nameChoice s u l c read k
-            ∙ ap₂ _||_ (at (aOf s c) (child-a s c kind.nameChoice (λ x. refl) k)) (at (bOf s c) (child-b s c kind.nameChoice (λ x. refl) k))
+            ∙ ap₂ _||_ (at (aOf s c) (child-a s c kind.nameChoice (λ x. refl) k))
+            (at (bOf s c) (child-b s c kind.nameChoice (λ x. refl) k))
             ∙ sym (holds-nameChoice s u′ l′ c read k)
         go (no i) (no j) (no o) (no k) = holds-other s u l c read i j o k ∙ sym (holds-other s u′ l′ c read i j o k)
 

@@ -40,8 +40,15 @@ near n u = go (decLt u (suc n))
   where
     go : Dec (u < suc n) → (v : ℕ) × Near n u v
     go (yes h) = (u, record { low = omega arith; most = omega arith; alike = λ x l. refl; positive = λ h. h })
-    go (no h) =
-        (suc n, record { low = omega arith; most = omega arith; alike = λ x l. ne-eqb u x (λ e. omega arith) ∙ sym (ne-eqb (suc n) x (λ e. omega arith)); positive = λ h. omega arith })
+    go (no h) = (
+      suc n,
+      record {
+        low = omega arith;
+        most = omega arith;
+        alike = λ x l. ne-eqb u x (λ e. omega arith) ∙ sym (ne-eqb (suc n) x (λ e. omega arith));
+        positive = λ h. omega arith;
+      },
+    )
 
 -- all rows are marked
 ones : (n k : ℕ) → k < n → Marked (replicate n 1) k
@@ -66,10 +73,12 @@ module _ {strings : ℕ} {s : List ℕ} (right : RowsRight strings s) where
   in-marks r h = rw (length-replicate {A = ℕ} (rowsOf s) 1) at (marked-row marks r h)
 
   -- the numbers that a row mentions are below the number of strings
-  one-of : (k a x : ℕ) → cond (eqb k kind.nsName) (Of a) (cond (eqb k kind.name) (Of a) NoMention) ≡ Of x → (k ≡ kind.nsName → a < strings) → (k ≡ kind.name → a < strings) → x < strings
+  one-of : (k a x : ℕ) → cond (eqb k kind.nsName) (Of a) (cond (eqb k kind.name) (Of a) NoMention) ≡ Of x
+      → (k ≡ kind.nsName → a < strings) → (k ≡ kind.name → a < strings) → x < strings
   one-of k a x e f g = go (eqb k kind.nsName) refl (eqb k kind.name) refl e
     where
-      go : (b : Bool) → eqb k kind.nsName ≡ b → (c : Bool) → eqb k kind.name ≡ c → cond b (Of a) (cond c (Of a) NoMention) ≡ Of x → x < strings
+      go : (b : Bool) → eqb k kind.nsName ≡ b → (c : Bool) → eqb k kind.name ≡ c
+          → cond b (Of a) (cond c (Of a) NoMention) ≡ Of x → x < strings
       go true h c i e = let z : a ≡ x = cc in let l = f (eqb-true k kind.nsName h) in omega arith
       go false h true i e = let z : a ≡ x = cc in let l = g (eqb-true k kind.name i) in omega arith
       go false h false i e = let z : _≡_ {A = ℕ} 0 1 = cc in absurd (omega arith)
@@ -77,13 +86,15 @@ module _ {strings : ℕ} {s : List ℕ} (right : RowsRight strings s) where
   mentioned : (part : NamePart) (r x : ℕ) → r < rowsOf s → mentionOf s r part ≡ Of x → x < strings
   unfolding shapeOf
   mentioned Namespace r x h e =
-      one-of (kindOf s r) (aOf s r) x e (λ k. ltb-true (aOf s r) strings (rw k at (both-fields strings s right r h .0))) (λ k. ltb-true (aOf s r) strings (rw k at (both-fields strings s right r h .0)))
+      one-of (kindOf s r) (aOf s r) x e (λ k. ltb-true (aOf s r) strings (rw k at (both-fields strings s right r h .0)))
+      (λ k. ltb-true (aOf s r) strings (rw k at (both-fields strings s right r h .0)))
   mentioned Local r x h e = go (eqb (kindOf s r) kind.name) refl e
     where
       go : (b : Bool) → eqb (kindOf s r) kind.name ≡ b → cond b (Of (bOf s r)) NoMention ≡ Of x → x < strings
       go true i e =
           let z : bOf s r ≡ x = cc in
-          let t : (ltb 0 (bOf s r) && ltb (bOf s r) strings) ≡ true = rw (eqb-true (kindOf s r) kind.name i) at (both-fields strings s right r h .1) in
+          let t : (ltb 0 (bOf s r) && ltb (bOf s r) strings)
+          ≡ true = rw (eqb-true (kindOf s r) kind.name i) at (both-fields strings s right r h .1) in
           let l = ltb-true (bOf s r) strings (and-both (ltb 0 (bOf s r)) (ltb (bOf s r) strings) t .1) in
           omega arith
       go false i e = let z : _≡_ {A = ℕ} 0 1 = cc in absurd (omega arith)
@@ -93,15 +104,19 @@ module _ {strings : ℕ} {s : List ℕ} (right : RowsRight strings s) where
 
   -- what holds a name is a row
   class-row : (u l c : ℕ) → inClass s u l c ≡ true → c < rowsOf s
-  class-row u l c h = in-table (right-size right) (λ e. true≢false (sym (and-both (ltb 0 l) (holds s u l c) h .1) ∙ no-row e))
+  class-row u l c h =
+      in-table (right-size right) (λ e. true≢false (sym (and-both (ltb 0 l) (holds s u l c) h .1) ∙ no-row e))
     where
       no-row : kindOf s c ≡ 0 → holds s u l c ≡ false
-      no-row e = holds-other s u l c (record { kind = sym e; first = refl; second = refl }) (λ z. omega arith) (λ z. omega arith) (λ z. omega arith) (λ z. omega arith)
+      no-row e =
+          holds-other s u l c (record { kind = sym e; first = refl; second = refl })
+          (λ z. omega arith) (λ z. omega arith) (λ z. omega arith) (λ z. omega arith)
 
   in-near : (u v l k c : ℕ) → Near strings u v → Near strings l k → inClass s u l c ≡ true → inClass s v k c ≡ true
   in-near u v l k c n m h =
       let p = ltb-true 0 l (and-both (ltb 0 l) (holds s u l c) h .0) in
-      sym (same-in-class s marks u l v k closed fits (no-mark-tells Namespace u v n) (no-mark-tells Local l k m) c (ones (rowsOf s) c (class-row u l c h)) p (m .positive p)) ∙ h
+      sym (same-in-class s marks u l v k closed fits (no-mark-tells Namespace u v n)
+      (no-mark-tells Local l k m) c (ones (rowsOf s) c (class-row u l c h)) p (m .positive p)) ∙ h
     where
       closed : (p r : ℕ) → Marked marks p → Child s r p → Marked marks r
       closed p r i c = ones (rowsOf s) r (let a = child-less c in let b = in-marks p i in omega arith)
@@ -120,5 +135,8 @@ module _ {strings : ℕ} {s : List ℕ} (right : RowsRight strings s) where
         low-local = m .1 .low;
         most-namespace = n .1 .most;
         most-local = m .1 .most;
-        common = record { first = in-near u (n .0) l (m .0) c (n .1) (m .1) (h .first); second = in-near u (n .0) l (m .0) d (n .1) (m .1) (h .second) };
+        common = record {
+          first = in-near u (n .0) l (m .0) c (n .1) (m .1) (h .first);
+          second = in-near u (n .0) l (m .0) d (n .1) (m .1) (h .second);
+        };
       }

@@ -10,7 +10,8 @@ use lib.ListN.{getD}
 use borrow.Author.Count.{below-none, below-more}
 use borrow.Author.Tests.{ltb-true, ltb-false}
 use Rattle.schema_classes.specs.Least.{Common, NotAfter}
-use Rattle.schema_classes.specs.Search.{Among, Covers, Sound, Tried, Earlier, Better, TriedName, TriedLocals, TriedAll}
+use Rattle.schema_classes.specs.Search.{Among, Covers, Sound, Tried, Earlier}
+use Rattle.schema_classes.specs.Search.{Better, TriedName, TriedLocals, TriedAll}
 use Rattle.schema_classes.specs.declared.Found.{Found}
 use Rattle.schema_classes.specs.declared.Found.the-variants.{Name, Nothing}
 
@@ -61,7 +62,8 @@ module _ {s : List ℕ} {c d u l : ℕ} {best : Found} where
   not-common h = record { better = better-same; tried = λ k. absurd (h k) }
 
   pub next-name : {r : Bool} → Earlier u l best r → r ≡ true → Common s c d u l → TriedName s c d u l best (Name u l)
-  next-name h e k = record { better = record { sound = λ _. k; covers = h .yes e }; tried = λ _. inr (refl, omega arith) }
+  next-name h e k =
+      record { better = record { sound = λ _. k; covers = h .yes e }; tried = λ _. inr (refl, omega arith) }
 
 -- the first i local numbers
 pub record TryingLocals (s : List ℕ) (c d u : ℕ) (ls : List ℕ) (best : Found) (i : ℕ) (r : Found) : Type 0 where
@@ -72,10 +74,12 @@ module _ {s ls : List ℕ} {c d u : ℕ} {best : Found} where
   pub locals-start : TryingLocals s c d u ls best 0 best
   locals-start = record { better = better-same; tried = below-none (λ j. Tried s c d best u (getD ls j 0)) }
 
-  pub locals-step : {i l : ℕ} {r r′ : Found} → TryingLocals s c d u ls best i r → l ≡ getD ls i 0 → TriedName s c d u l r r′ → TryingLocals s c d u ls best (i + 1) r′
+  pub locals-step : {i l : ℕ} {r r′ : Found} → TryingLocals s c d u ls best i r
+      → l ≡ getD ls i 0 → TriedName s c d u l r r′ → TryingLocals s c d u ls best (i + 1) r′
   locals-step {i} {l} {r} {r′} a e b = record {
     better = better-next (a .better) (b .better);
-    tried = below-more (λ j. Tried s c d r′ u (getD ls j 0)) i (λ j h. still-tried (b .better) (a .tried j h)) (rw e at (b .tried));
+    tried = below-more (λ j. Tried s c d r′ u (getD ls j 0)) i
+        (λ j h. still-tried (b .better) (a .tried j h)) (rw e at (b .tried));
   }
 
   pub locals-done : {i n : ℕ} {r : Found} → TryingLocals s c d u ls best i r → n ≤ i → TriedLocals s c d u ls n best r
@@ -91,12 +95,15 @@ pub record TryingNames (s : List ℕ) (c d : ℕ) (us ls : List ℕ) (n i : ℕ)
 
 module _ {s us ls : List ℕ} {c d n : ℕ} where
   pub names-start : TryingNames s c d us ls n 0 Nothing
-  names-start = record { sound = tt; tried = below-none (λ j. (l : ℕ) → Among ls n l → Tried s c d Nothing (getD us j 0) l) }
+  names-start =
+      record { sound = tt; tried = below-none (λ j. (l : ℕ) → Among ls n l → Tried s c d Nothing (getD us j 0) l) }
 
-  pub names-step : {i u : ℕ} {r r′ : Found} → TryingNames s c d us ls n i r → u ≡ getD us i 0 → TriedLocals s c d u ls n r r′ → TryingNames s c d us ls n (i + 1) r′
+  pub names-step : {i u : ℕ} {r r′ : Found} → TryingNames s c d us ls n i r → u ≡ getD us i 0
+      → TriedLocals s c d u ls n r r′ → TryingNames s c d us ls n (i + 1) r′
   names-step {i} {u} {r} {r′} a e b = record {
     sound = b .better .sound (a .sound);
-    tried = below-more (λ j. (l : ℕ) → Among ls n l → Tried s c d r′ (getD us j 0) l) i (λ j h l k. still-tried (b .better) (a .tried j h l k)) (rw e at (b .tried));
+    tried = below-more (λ j. (l : ℕ) → Among ls n l → Tried s c d r′ (getD us j 0) l)
+        i (λ j h l k. still-tried (b .better) (a .tried j h l k)) (rw e at (b .tried));
   }
 
   pub names-done : {i m : ℕ} {r : Found} → TryingNames s c d us ls n i r → m ≤ i → TriedAll s c d us m ls n r

@@ -26,11 +26,14 @@ module _ (s : List ℕ) (r : ℕ) where
   not-sharing e p = false≢true (sym (ap sharingKind e) ∙ p)
 
   -- attributes on the two sides of a group or interleave
-  pub sharing-decides : sharingKind (kindOf s r) ≡ true → (x : Bool) → Decides (Somewhere s (Suits s (AttributeMeeting (childB s r))) (childA s r)) x → Decides (AttributeFault s r) x
+  pub sharing-decides : sharingKind (kindOf s r) ≡ true → (x : Bool)
+      → Decides (Somewhere s (Suits s (AttributeMeeting (childB s r))) (childA s r)) x → Decides (AttributeFault s r) x
   sharing-decides p x = decides-same x to from
     where
       to : Somewhere s (Suits s (AttributeMeeting (childB s r))) (childA s r) → AttributeFault s r
-      to f = let g = f .2 .1 in duplicate (f .0) (g .0) (g .2 .1 .0) (g .2 .1 .1) p (f .1) (f .2 .0) (g .1) (g .2 .0) (g .2 .1 .2)
+      to f =
+          let g = f .2 .1 in
+          duplicate (f .0) (g .0) (g .2 .1 .0) (g .2 .1 .1) p (f .1) (f .2 .0) (g .1) (g .2 .0) (g .2 .1 .2)
 
       from : AttributeFault s r → Somewhere s (Suits s (AttributeMeeting (childB s r))) (childA s r)
       from (duplicate x y u l q o k o′ k′ c) = (x, o, (k, (y, o′, (k′, (u, l, c)))))
@@ -41,14 +44,18 @@ module _ (s : List ℕ) (r : ℕ) where
   no-attribute-fault p n (duplicate x y u l q o k o′ k′ c) = true≢false (sym q ∙ p)
   no-attribute-fault p n (not-repeated k i m) = n k
 
-  module _ {repeated : List ℕ} (marks : MarksExactly (Under s (HasKind s kind.oneOrMore)) repeated) (e : kindOf s r ≡ kind.attribute) where
+  module _ {repeated : List ℕ} (marks : MarksExactly (Under s (HasKind s kind.oneOrMore)) repeated)
+      (e : kindOf s r ≡ kind.attribute) where
     -- an attribute below a oneOrMore may have any class
     pub repeated-right : Marked repeated r → ¬ AttributeFault s r
     repeated-right m (duplicate x y u l q o k o′ k′ c) = not-sharing e q
-    repeated-right m (not-repeated k i n) = let under = marks .sound r m in n (under .row) (under .source) (under .below)
+    repeated-right m (not-repeated k i n) =
+        let under = marks .sound r m in
+        n (under .row) (under .source) (under .below)
 
     -- another may not have an infinite one
-    pub infinite-decides : ¬ Marked repeated r → (x : Bool) → Decides (Infinite s (childA s r)) x → Decides (AttributeFault s r) x
+    pub infinite-decides : ¬ Marked repeated r → (x : Bool)
+        → Decides (Infinite s (childA s r)) x → Decides (AttributeFault s r) x
     infinite-decides n x = decides-same x to from
       where
         to : Infinite s (childA s r) → AttributeFault s r
@@ -66,15 +73,24 @@ module _ (s : List ℕ) (r : ℕ) where
   -- an interleave, by what is found in its sides a and b
   module _ (e : kindOf s r ≡ kind.interleave) {a b : ℕ} (is-a : a ≡ childA s r) (is-b : b ≡ childB s r) where
     pub element-fault : Somewhere s (Suits s (RefMeeting b)) a → InterleaveFault s r
-    element-fault f = let g = f .2 .1 in same-element (f .0) (g .0) (g .2 .1 .0) (g .2 .1 .1) e (subst (Occurs s (f .0)) is-a (f .1)) (f .2 .0) (subst (Occurs s (g .0)) is-b (g .1)) (g .2 .0) (g .2 .1 .2)
+    element-fault f =
+        let g = f .2 .1 in
+        same-element (f .0) (g .0) (g .2 .1 .0) (g .2 .1 .1) e (subst (Occurs s (f .0)) is-a (f .1))
+        (f .2 .0) (subst (Occurs s (g .0)) is-b (g .1)) (g .2 .0) (g .2 .1 .2)
 
     module _ (no-element : ¬ Somewhere s (Suits s (RefMeeting b)) a) where
       text-sides : InterleaveFault s r → Somewhere s (Suits s Text) a × Somewhere s (Suits s Text) b
-      text-sides (same-element x y u l k o kx o′ ky c) = absurd (no-element (x, subst (Occurs s x) (sym is-a) o, (kx, (y, subst (Occurs s y) (sym is-b) o′, (ky, (u, l, c))))))
-      text-sides (text-twice x y k o kx o′ ky) = ((x, subst (Occurs s x) (sym is-a) o, kx), (y, subst (Occurs s y) (sym is-b) o′, ky))
+      text-sides (same-element x y u l k o kx o′ ky c) =
+          absurd (no-element
+          (x, subst (Occurs s x) (sym is-a) o, (kx, (y, subst (Occurs s y) (sym is-b) o′, (ky, (u, l, c))))))
+      text-sides (text-twice x y k o kx o′ ky) =
+          ((x, subst (Occurs s x) (sym is-a) o, kx), (y, subst (Occurs s y) (sym is-b) o′, ky))
 
-      pub text-decides : Somewhere s (Suits s Text) a → (x : Bool) → Decides (Somewhere s (Suits s Text) b) x → Decides (InterleaveFault s r) x
-      text-decides f x = decides-same x (λ g. text-twice (f .0) (g .0) e (subst (Occurs s (f .0)) is-a (f .1)) (f .2) (subst (Occurs s (g .0)) is-b (g .1)) (g .2)) (λ h. text-sides h .1)
+      pub text-decides : Somewhere s (Suits s Text) a → (x : Bool)
+          → Decides (Somewhere s (Suits s Text) b) x → Decides (InterleaveFault s r) x
+      text-decides f x =
+          decides-same x (λ g. text-twice (f .0) (g .0) e (subst (Occurs s (f .0)) is-a (f .1))
+          (f .2) (subst (Occurs s (g .0)) is-b (g .1)) (g .2)) (λ h. text-sides h .1)
 
       pub no-text-fault : ¬ Somewhere s (Suits s Text) a → ¬ InterleaveFault s r
       no-text-fault n h = n (text-sides h .0)

@@ -1,4 +1,4 @@
--- A test that goes down to the children of a row.
+-- A test that goes down to the children of a row, for the recursions over patterns and over name classes.
 use mathlib.Core.Path.{_≡_, sym, _∙_, subst}
 use mathlib.Core.Bool.{Bool, true, false}
 use mathlib.Core.Logic.{_⊎_, ⊎-elim}
@@ -16,7 +16,8 @@ pub record ByChildren (s : List ℕ) (F : ℕ → Type 0) (p : ℕ) : Type 0 whe
   pub up : (q : ℕ) → Child s q p → F q → F p
   pub down : F p → (q : ℕ) × Child s q p × F q
 
-module _ {s : List ℕ} {F : ℕ → Type 0} {p a : ℕ} {x : Bool} (low : p ≤ noRow) (ea : a ≡ childA s p) (by : ByChildren s F p) (da : Decides ((a < p) × F a) x) where
+module _ {s : List ℕ} {F : ℕ → Type 0} {p a : ℕ} {x : Bool} (low : p ≤ noRow)
+    (ea : a ≡ childA s p) (by : ByChildren s F p) (da : Decides ((a < p) × F a) x) where
   pub first-child : x ≡ true → F p
   first-child e =
       let f = said-yes da e in

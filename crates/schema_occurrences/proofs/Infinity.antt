@@ -16,7 +16,8 @@ anyName-infinite s c e f = is-wildcard (rw (sym e ∙ f))
 pub nsName-infinite : (s : List ℕ) (c : ℕ) {k : ℕ} → k ≡ kindOf s c → k ≡ kind.nsName → Infinite s c
 nsName-infinite s c e f = is-wildcard (rw (sym e ∙ f))
 
-pub by-children : (s : List ℕ) (c : ℕ) {k : ℕ} → k ≡ kindOf s c → (k ≡ kind.anyName → ⊥) → (k ≡ kind.nsName → ⊥) → ByChildren s (Infinite s) c
+pub by-children : (s : List ℕ) (c : ℕ) {k : ℕ} → k ≡ kindOf s c
+    → (k ≡ kind.anyName → ⊥) → (k ≡ kind.nsName → ⊥) → ByChildren s (Infinite s) c
 by-children s c e f g = record { up = up; down = down }
   where
     up : (q : ℕ) → Child s q c → Infinite s q → Infinite s c
@@ -28,5 +29,7 @@ by-children s c e f g = record { up = up; down = down }
     below {d} (deeper {q = q} h b) w = (q, h, has-wildcard d b w)
 
     down : Infinite s c → (q : ℕ) × Child s q c × Infinite s q
-    down (is-wildcard w) = absurd (false≢true (sym (rw (ne-eqb (kindOf s c) kind.anyName (λ x. f (e ∙ x)), ne-eqb (kindOf s c) kind.nsName (λ x. g (e ∙ x)))) ∙ w))
+    down (is-wildcard w) =
+        absurd (false≢true (sym
+        (rw (ne-eqb (kindOf s c) kind.anyName (λ x. f (e ∙ x)), ne-eqb (kindOf s c) kind.nsName (λ x. g (e ∙ x)))) ∙ w))
     down (has-wildcard d b w) = below b w

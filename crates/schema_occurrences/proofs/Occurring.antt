@@ -15,10 +15,12 @@ use Rattle.schema_occurrences.specs.Occurrences.{Somewhere, Shared}
 use Rattle.schema_occurrences.proofs.Descent.{ByChildren}
 
 -- a kind of choice, group, interleave or oneOrMore, and one of no such pattern
-pub is-connective : (s : List ℕ) (p : ℕ) {k : ℕ} → k ≡ kindOf s p → kind.oneOrMore ≤ k → k ≤ kind.interleave → connective (kindOf s p) ≡ true
+pub is-connective : (s : List ℕ) (p : ℕ) {k : ℕ} → k ≡ kindOf s p
+    → kind.oneOrMore ≤ k → k ≤ kind.interleave → connective (kindOf s p) ≡ true
 is-connective s p {k} e l h = rw (← e) (inside kind.oneOrMore kind.interleave k l h)
 
-pub not-connective : (s : List ℕ) (p : ℕ) {k : ℕ} → k ≡ kindOf s p → (k < kind.oneOrMore) ⊎ (kind.interleave < k) → connective (kindOf s p) ≡ false
+pub not-connective : (s : List ℕ) (p : ℕ) {k : ℕ} → k ≡ kindOf s p
+    → (k < kind.oneOrMore) ⊎ (kind.interleave < k) → connective (kindOf s p) ≡ false
 not-connective s p {k} e h = rw (← e) (outside kind.oneOrMore kind.interleave k h)
 
 module _ (s : List ℕ) (P : ℕ → Type 0) (p : ℕ) where
@@ -26,7 +28,8 @@ module _ (s : List ℕ) (P : ℕ → Type 0) (p : ℕ) where
   occurs-here w = (p, itself, w)
 
   -- an occurrence is at p or in a child
-  inside-of : (x : ℕ) → Occurs s x p → P x → P p ⊎ ((connective (kindOf s p) ≡ true) × ((q : ℕ) × Child s q p × Somewhere s P q))
+  inside-of : (x : ℕ) → Occurs s x p → P x
+      → P p ⊎ ((connective (kindOf s p) ≡ true) × ((q : ℕ) × Child s q p × Somewhere s P q))
   inside-of x itself w = inl w
   inside-of x (within {q = q} c h o) w = inr (c, (q, h, (x, o, w)))
 

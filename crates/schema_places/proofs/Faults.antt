@@ -17,7 +17,9 @@ use Rattle.schema_places.specs.Marks.{MarksExactly, Under}
 use Rattle.schema_places.specs.Sources.{HasKind, SharingIn}
 use Rattle.schema_places.specs.Prohibited.{RepeatedSharing, MarkedKind, Prohibited, earliest}
 use Rattle.schema_places.specs.declared.Prohibition.{Prohibition}
-use Rattle.schema_places.specs.declared.Prohibition.the-variants.{NotInAnyName, NotInNsName, NotInAttribute, NotInRepeated, NotInList, NotInExcept, NotInStart}
+use Rattle.schema_places.specs.declared.Prohibition.the-variants.{NotInAnyName, NotInNsName}
+use Rattle.schema_places.specs.declared.Prohibition.the-variants.{NotInAttribute, NotInRepeated}
+use Rattle.schema_places.specs.declared.Prohibition.the-variants.{NotInList, NotInExcept, NotInStart}
 use Rattle.schema_places.specs.Names.{NameFault, anyName-in-anyName, anyName-in-nsName, nsName-in-nsName}
 use Rattle.schema_places.specs.Paths.{PathFault, in-attribute, in-repeated-sharing, in-list, in-except, in-start}
 use Rattle.schema_places.proofs.Marks.{marks-same}
@@ -41,25 +43,38 @@ module _ (P Q : ℕ → Type 0) where
 
 -- the search of a table that marks the rows below S
 module _ {s : List ℕ} {S : ℕ → Type 0} {t : List ℕ} (prohibition : Prohibition) where
-  pub finds-below : (c : Checked) → MarksExactly (Under s S) t → Finds (MarkedKind s t prohibition) c → Finds (Prohibited s S prohibition) c
+  pub finds-below : (c : Checked) → MarksExactly (Under s S) t
+      → Finds (MarkedKind s t prohibition) c → Finds (Prohibited s S prohibition) c
   finds-below c m =
       finds-same c
       (λ r f. record { under = m .sound r (f .mark); prohibited = f .prohibited })
       (λ r f. record { mark = m .complete r (f .under); prohibited = f .prohibited })
 
-pub marks-repeated : {s t : List ℕ} {u : List ℕ} → MarksExactly (Under s (HasKind s kind.oneOrMore)) t → MarksExactly (Under s (SharingIn s t)) u → MarksExactly (Under s (RepeatedSharing s)) u
+pub marks-repeated : {s t : List ℕ} {u : List ℕ} → MarksExactly (Under s (HasKind s kind.oneOrMore)) t
+    → MarksExactly (Under s (SharingIn s t)) u → MarksExactly (Under s (RepeatedSharing s)) u
 marks-repeated m =
     marks-same
-    (λ r u. record { row = u .row; source = record { sharing = u .source .sharing; repeated = m .sound (u .row) (u .source .mark) }; below = u .below })
-    (λ r u. record { row = u .row; source = record { sharing = u .source .sharing; mark = m .complete (u .row) (u .source .repeated) }; below = u .below })
+    (λ r u. record {
+      row = u .row;
+      source = record { sharing = u .source .sharing; repeated = m .sound (u .row) (u .source .mark) };
+      below = u .below;
+    })
+    (λ r u. record {
+      row = u .row;
+      source = record { sharing = u .source .sharing; mark = m .complete (u .row) (u .source .repeated) };
+      below = u .below;
+    })
 
 -- code 4, by the anyNames and by the nsNames
 abbrev pub NameProhibited : List ℕ → ℕ → Type 0
-NameProhibited s = Either (Prohibited s (HasKind s kind.anyName) NotInAnyName) (Prohibited s (HasKind s kind.nsName) NotInNsName)
+NameProhibited s =
+    Either (Prohibited s (HasKind s kind.anyName) NotInAnyName) (Prohibited s (HasKind s kind.nsName) NotInNsName)
 
 module _ {s : List ℕ} where
   pub name-fault : (r : ℕ) → NameProhibited s r → NameFault s r
-  name-fault r (inl f) = let u = f .under in anyName-in-anyName (u .row) (eqb-true _ _ (f .prohibited)) (u .source) (u .below)
+  name-fault r (inl f) =
+      let u = f .under in
+      anyName-in-anyName (u .row) (eqb-true _ _ (f .prohibited)) (u .source) (u .below)
   name-fault r (inr f) =
       let u = f .under in
       ⊎-elim
@@ -68,9 +83,12 @@ module _ {s : List ℕ} where
       (or-either _ _ (f .prohibited))
 
   pub fault-name : (r : ℕ) → NameFault s r → NameProhibited s r
-  fault-name r (anyName-in-anyName p e k b) = inl (record { under = record { row = p; source = k; below = b }; prohibited = eq-eqb _ _ e })
-  fault-name r (anyName-in-nsName p e k b) = inr (record { under = record { row = p; source = k; below = b }; prohibited = rw e })
-  fault-name r (nsName-in-nsName p e k b) = inr (record { under = record { row = p; source = k; below = b }; prohibited = rw e })
+  fault-name r (anyName-in-anyName p e k b) =
+      inl (record { under = record { row = p; source = k; below = b }; prohibited = eq-eqb _ _ e })
+  fault-name r (anyName-in-nsName p e k b) =
+      inr (record { under = record { row = p; source = k; below = b }; prohibited = rw e })
+  fault-name r (nsName-in-nsName p e k b) =
+      inr (record { under = record { row = p; source = k; below = b }; prohibited = rw e })
 
 -- code 5, by its five paths
 abbrev pub PathProhibited : List ℕ → ℕ → Type 0
@@ -86,15 +104,27 @@ module _ {s : List ℕ} where
   path-fault r (inl (inr f)) =
       let u = f .under in
       let q = u .source .repeated in
-      in-repeated-sharing (u .row) (q .row) (eqb-true _ _ (f .prohibited)) (u .source .sharing) (u .below) (q .source) (q .below)
+      in-repeated-sharing (u .row) (q .row) (eqb-true _ _ (f .prohibited))
+      (u .source .sharing) (u .below) (q .source) (q .below)
   path-fault r (inr (inl f)) = let u = f .under in in-list (u .row) (f .prohibited) (u .source) (u .below)
   path-fault r (inr (inr (inl f))) = let u = f .under in in-except (u .row) (f .prohibited) (u .source) (u .below)
   path-fault r (inr (inr (inr f))) = let u = f .under in in-start (u .row) (f .prohibited) (u .source) (u .below)
 
   pub fault-path : (r : ℕ) → PathFault s r → PathProhibited s r
-  fault-path r (in-attribute p n k b) = inl (inl (record { under = record { row = p; source = k; below = b }; prohibited = n }))
+  fault-path r (in-attribute p n k b) =
+      inl (inl (record { under = record { row = p; source = k; below = b }; prohibited = n }))
   fault-path r (in-repeated-sharing p q e n b k d) =
-      inl (inr (record { under = record { row = p; source = record { sharing = n; repeated = record { row = q; source = k; below = d } }; below = b }; prohibited = eq-eqb _ _ e }))
-  fault-path r (in-list p n k b) = inr (inl (record { under = record { row = p; source = k; below = b }; prohibited = n }))
-  fault-path r (in-except p n k b) = inr (inr (inl (record { under = record { row = p; source = k; below = b }; prohibited = n })))
-  fault-path r (in-start p n k b) = inr (inr (inr (record { under = record { row = p; source = k; below = b }; prohibited = n })))
+      inl (inr (record {
+        under = record {
+          row = p;
+          source = record { sharing = n; repeated = record { row = q; source = k; below = d } };
+          below = b;
+        };
+        prohibited = eq-eqb _ _ e;
+      }))
+  fault-path r (in-list p n k b) =
+      inr (inl (record { under = record { row = p; source = k; below = b }; prohibited = n }))
+  fault-path r (in-except p n k b) =
+      inr (inr (inl (record { under = record { row = p; source = k; below = b }; prohibited = n })))
+  fault-path r (in-start p n k b) =
+      inr (inr (inr (record { under = record { row = p; source = k; below = b }; prohibited = n })))

@@ -22,7 +22,11 @@ use Rattle.schema_places.specs.Marks.{MarksExactly, ChildThat}
 
 module _ {P : ℕ → Type 0} where
   pub marks-none : (n : ℕ) → ((r : ℕ) → ¬ P r) → MarksExactly P (zeros n)
-  marks-none n noRow = record { sound = λ r m. absurd (omega (arith, getD-zeros n r)); complete = λ r p. absurd (noRow r p); rest = λ r m. getD-zeros n r }
+  marks-none n noRow = record {
+    sound = λ r m. absurd (omega (arith, getD-zeros n r));
+    complete = λ r p. absurd (noRow r p);
+    rest = λ r m. getD-zeros n r;
+  }
 
   -- every word is fixed by the rows that are marked
   pub marks-unique : (t u : List ℕ) → length t ≡ length u → MarksExactly P t → MarksExactly P u → t ≡ u
@@ -32,11 +36,14 @@ module _ {P : ℕ → Type 0} where
       go k (yes d) = d ∙ sym (n .complete k (m .sound k d))
       go k (no d) = m .rest k d ∙ sym (n .rest k (λ x. d (m .complete k (n .sound k x))))
 
-pub marks-same : {P Q : ℕ → Type 0} → ((r : ℕ) → P r → Q r) → ((r : ℕ) → Q r → P r) → {t : List ℕ} → MarksExactly P t → MarksExactly Q t
-marks-same to from m = record { sound = λ r h. to r (m .sound r h); complete = λ r q. m .complete r (from r q); rest = m .rest }
+pub marks-same : {P Q : ℕ → Type 0} → ((r : ℕ) → P r → Q r)
+    → ((r : ℕ) → Q r → P r) → {t : List ℕ} → MarksExactly P t → MarksExactly Q t
+marks-same to from m =
+    record { sound = λ r h. to r (m .sound r h); complete = λ r q. m .complete r (from r q); rest = m .rest }
 
 -- where R holds where P or Q does
-pub marks-more : {P Q R : ℕ → Type 0} → ((r : ℕ) → P r → R r) → ((r : ℕ) → Q r → R r) → ((r : ℕ) → R r → P r ⊎ Q r) → {t u : List ℕ} → MarksExactly P t → Adds Q t u → MarksExactly R u
+pub marks-more : {P Q R : ℕ → Type 0} → ((r : ℕ) → P r → R r) → ((r : ℕ) → Q r → R r)
+    → ((r : ℕ) → R r → P r ⊎ Q r) → {t u : List ℕ} → MarksExactly P t → Adds Q t u → MarksExactly R u
 marks-more left right split m a = record {
   sound = λ r h. ⊎-elim (λ o. left r (m .sound r o)) (λ q. right r q) (a .only r h);
   complete = λ r x. ⊎-elim (λ p. a .kept r (m .complete r p)) (λ q. a .added r q) (split r x);
@@ -48,7 +55,8 @@ says-yes true d x = refl
 says-yes false d x = absurd (d x)
 
 -- the children of which P holds are marked, where P is what was asked of each
-module _ {s t : List ℕ} {p : ℕ} (low : p ≤ maxRows) (room : length t ≡ maxRows) (P : ℕ → Type 0) (a b : Bool) (da : Decides (P (childA s p)) a) (db : Decides (P (childB s p)) b) where
+module _ {s t : List ℕ} {p : ℕ} (low : p ≤ maxRows) (room : length t ≡ maxRows) (P : ℕ → Type 0)
+    (a b : Bool) (da : Decides (P (childA s p)) a) (db : Decides (P (childB s p)) b) where
   pub adds-those : {u : List ℕ} → u ≡ childrenMarked s p a b t → Adds (ChildThat s p P) t u
   adds-those e = rw e (adds-same to from (adds-children s t p a b (omega arith) (omega arith)))
     where
@@ -56,8 +64,12 @@ module _ {s t : List ℕ} {p : ℕ} (low : p ≤ maxRows) (room : length t ≡ m
       within = omega arith
 
       to : (r : ℕ) → PickedChild s p a b r → ChildThat s p P r
-      to r (picked-a k) = subst (ChildThat s p P) (k .is) (record { child = child-a s p within (rw (k .is) (k .less)); holds = said-yes da (k .on) })
-      to r (picked-b k) = subst (ChildThat s p P) (k .is) (record { child = child-b s p within (rw (k .is) (k .less)); holds = said-yes db (k .on) })
+      to r (picked-a k) =
+          subst (ChildThat s p P) (k .is)
+          (record { child = child-a s p within (rw (k .is) (k .less)); holds = said-yes da (k .on) })
+      to r (picked-b k) =
+          subst (ChildThat s p P) (k .is)
+          (record { child = child-b s p within (rw (k .is) (k .less)); holds = said-yes db (k .on) })
 
       from : (r : ℕ) → ChildThat s p P r → PickedChild s p a b r
       from r k =

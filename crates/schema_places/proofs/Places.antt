@@ -26,7 +26,8 @@ module _ {s : List ℕ} {p r : ℕ} where
   fits-other f g (no-notAllowed e n) = f e
   fits-other f g (no-empty e n) = g e
 
-pub marks-places : {s : List ℕ} {m : ℕ} {t : List ℕ} → m ≡ 0 → MarksExactly (Swept s (Misplaced s) m) t → MarksExactly (PlaceFault s) t
+pub marks-places : {s : List ℕ} {m : ℕ} {t : List ℕ} → m ≡ 0
+    → MarksExactly (Swept s (Misplaced s) m) t → MarksExactly (PlaceFault s) t
 marks-places {s} {m} e = marks-same (λ r w. to (w .child) (w .holds)) from
   where
     to : {p r : ℕ} → Child s r p → Misplaced s p r → PlaceFault s r

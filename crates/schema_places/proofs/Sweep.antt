@@ -1,4 +1,5 @@
--- A sweep over the rows from the last to the first, in which each row marks children of its own.
+-- A sweep over the rows from the last to the first, in which each row marks children of its own: it marks what is below
+-- a source.
 use Prim.Native.Nat.{ℕ, suc, _+_, _≤_}
 use mathlib.Core.Path.{_≡_, refl, sym, subst}
 use mathlib.Core.Bool.{true, false, false≢true}
@@ -44,7 +45,8 @@ module _ {s : List ℕ} {Q : ℕ → ℕ → Type 0} where
   pub sweep-none : {n : ℕ} (k : ℕ) → RowEnd s n → MarksExactly (Swept s Q n) (zeros k)
   sweep-none k end = marks-none k (λ r w. childless (end .past (w .row) (w .late)) (w .child))
 
-  pub sweep-more : {m n : ℕ} {t u : List ℕ} → n ≡ suc m → MarksExactly (Swept s Q n) t → Adds (ChildThat s m (Q m)) t u → MarksExactly (Swept s Q m) u
+  pub sweep-more : {m n : ℕ} {t u : List ℕ} → n ≡ suc m → MarksExactly (Swept s Q n) t
+      → Adds (ChildThat s m (Q m)) t u → MarksExactly (Swept s Q m) u
   sweep-more {m} {n} e = marks-more left right split
     where
       left : (r : ℕ) → Swept s Q n r → Swept s Q m r
@@ -100,18 +102,26 @@ module _ {s : List ℕ} {S : ℕ → Type 0} where
         row = l .row;
         late = omega (arith, child-less (l .child));
         child = l .child;
-        holds = ⊎-elim (λ e. inl (subst S (sym e) (u .source))) (λ b. inr (record { row = u .row; source = u .source; below = b })) (l .rest);
+        holds = ⊎-elim (λ e. inl (subst S (sym e) (u .source)))
+            (λ b. inr (record { row = u .row; source = u .source; below = b })) (l .rest);
       }
 
   -- when row m is passed, its mark says already whether it is below a source
-  pub sweep-below : {m n : ℕ} {t u : List ℕ} → n ≡ suc m → MarksExactly (Swept s (Passed s S) n) t → Adds (ChildThat s m (λ r. S m ⊎ Marked t m)) t u → MarksExactly (Swept s (Passed s S) m) u
+  pub sweep-below : {m n : ℕ} {t u : List ℕ} → n ≡ suc m → MarksExactly (Swept s (Passed s S) n) t
+      → Adds (ChildThat s m (λ r. S m ⊎ Marked t m)) t u → MarksExactly (Swept s (Passed s S) m) u
   sweep-below {m} {n} {t} e marks adds = sweep-more e marks (adds-same to from adds)
     where
       to : (r : ℕ) → ChildThat s m (λ r. S m ⊎ Marked t m) r → ChildThat s m (Passed s S m) r
-      to r k = record { child = k .child; holds = ⊎-elim (λ x. inl x) (λ h. inr (swept-under n m (marks .sound m h))) (k .holds) }
+      to r k = record {
+        child = k .child;
+        holds = ⊎-elim (λ x. inl x) (λ h. inr (swept-under n m (marks .sound m h))) (k .holds);
+      }
 
       from : (r : ℕ) → ChildThat s m (Passed s S m) r → ChildThat s m (λ r. S m ⊎ Marked t m) r
-      from r k = record { child = k .child; holds = ⊎-elim (λ x. inl x) (λ u. inr (marks .complete m (under-swept n m (omega arith) u))) (k .holds) }
+      from r k = record {
+        child = k .child;
+        holds = ⊎-elim (λ x. inl x) (λ u. inr (marks .complete m (under-swept n m (omega arith) u))) (k .holds);
+      }
 
   pub sweep-end : {m : ℕ} {t : List ℕ} → m ≡ 0 → MarksExactly (Swept s (Passed s S) m) t → MarksExactly (Under s S) t
   sweep-end {m} e = marks-same (swept-under m) (λ r. under-swept m r (omega arith))

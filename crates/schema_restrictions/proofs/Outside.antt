@@ -29,9 +29,11 @@ no-sort test e f h = false≢true (sym f ∙ sym (ap (λ (k : ℕ). test (shapeO
 
 pub whole-outside : {s : List ℕ} {r l : ℕ} → holdsWhole (kindOf s r) ≡ true → ¬ Below s r l
 unfolding shapeOf
-whole-outside {s} {r} h b = go (or-either (eqb (kindOf s r) kind.element) (eqb (kindOf s r) kind.start) h) (child-sort (below-parent b .1))
+whole-outside {s} {r} h b =
+    go (or-either (eqb (kindOf s r) kind.element) (eqb (kindOf s r) kind.start) h) (child-sort (below-parent b .1))
   where
-    go : (eqb (kindOf s r) kind.element ≡ true) ⊎ (eqb (kindOf s r) kind.start ≡ true) → (isPattern (sortOf s r) ≡ true) ⊎ (isClass (sortOf s r) ≡ true) → ⊥
+    go : (eqb (kindOf s r) kind.element ≡ true) ⊎ (eqb (kindOf s r) kind.start ≡ true)
+        → (isPattern (sortOf s r) ≡ true) ⊎ (isClass (sortOf s r) ≡ true) → ⊥
     go (inl e) (inl i) = no-sort isPattern (eqb-true (kindOf s r) _ e) refl i
     go (inl e) (inr i) = no-sort isClass (eqb-true (kindOf s r) _ e) refl i
     go (inr e) (inl i) = no-sort isPattern (eqb-true (kindOf s r) _ e) refl i

@@ -19,13 +19,17 @@ use Rattle.schema.proofs.Children.{kind-past}
 use Rattle.schema.proofs.RowLaws.{whole-rows, in-table}
 use Rattle.schema_places.specs.Marks.{MarksExactly}
 use Rattle.schema_places.specs.Paths.{sharingKind}
-use Rattle.schema_sequences.specs.Content.{HasType, value-type, data-type-1, data-type-2, list-type, text-type, ref-type, empty-type, attribute-type, sharing-type, oneOrMore-type, choice-type, Clash, InList, SequenceFault, sharing-not-groupable, repeat-not-groupable}
+use Rattle.schema_sequences.specs.Content.{HasType, value-type, data-type-1, data-type-2, list-type}
+use Rattle.schema_sequences.specs.Content.{text-type, ref-type, empty-type, attribute-type}
+use Rattle.schema_sequences.specs.Content.{sharing-type, oneOrMore-type, choice-type, Clash, InList}
+use Rattle.schema_sequences.specs.Content.{SequenceFault, sharing-not-groupable, repeat-not-groupable}
 use Rattle.schema_sequences.specs.TypeTable.{noType, typeBy, TypeIs, Types}
 
 pub types-none : (s : List ℕ) → Types s (zeros maxRows) 0
 types-none s = record { size = length-replicate {A = ℕ} maxRows 0; known = λ r h. absurd (omega arith) }
 
-pub types-more : {s types : List ℕ} {n t : ℕ} → Types s types n → n < maxRows → TypeIs s n t → Types s (set types n t) (n + 1)
+pub types-more : {s types : List ℕ} {n t : ℕ} → Types s types n
+    → n < maxRows → TypeIs s n t → Types s (set types n t) (n + 1)
 types-more {s} {types} {n} {t} table h i = record {
   size = length-set types n t ∙ table .size;
   known =
@@ -49,12 +53,14 @@ untyped z (oneOrMore-type e t g) = omega (arith, z, e)
 untyped z (choice-type e t u) = omega (arith, z, e)
 
 pub no-row-type : (s : List ℕ) (r : ℕ) → SizeRight s → rowsOf s ≤ r → TypeIs s r noType
-no-row-type s r w h = record { has = λ e. absurd (false≢true e); only = λ c t. absurd (untyped (kind-past s r (whole-rows w) h) t) }
+no-row-type s r w h =
+    record { has = λ e. absurd (false≢true e); only = λ c t. absurd (untyped (kind-past s r (whole-rows w) h) t) }
 
 -- no kind of a pattern that has a type, as the rest of a match says it
 abbrev pub Untyped : ℕ → Type 0
 Untyped k =
-    ((((((((((Unit {0} × (k ≢ kind.empty)) × (k ≢ kind.text)) × (k ≢ kind.«data»)) × (k ≢ kind.value)) × (k ≢ kind.list)) × (k ≢ kind.attribute)) × (k ≢ kind.ref)) × (k ≢ kind.oneOrMore))
+    ((((((((((Unit {0} × (k ≢ kind.empty)) × (k ≢ kind.text)) × (k ≢ kind.«data»)) × (k ≢ kind.value))
+    × (k ≢ kind.list)) × (k ≢ kind.attribute)) × (k ≢ kind.ref)) × (k ≢ kind.oneOrMore))
     × (k ≢ kind.choice)) × (k ≢ kind.group)) × (k ≢ kind.interleave)
 
 pub type-other : (k b c d : ℕ) → Untyped k → noType ≡ typeBy k b c d
@@ -85,7 +91,8 @@ pub sequence-row : {s : List ℕ} {r : ℕ} → SizeRight s → SequenceFault s 
 sequence-row w f = clash-row w (f .clash)
 
 -- a clash is a fault where the row has no mark of being below a list
-pub clash-judged : {s listed : List ℕ} {r w : ℕ} → MarksExactly (InList s) listed → Clash s r → w ≡ getD listed r 0 → Decides (SequenceFault s r) (not (eqb w 1))
+pub clash-judged : {s listed : List ℕ} {r w : ℕ} → MarksExactly (InList s) listed
+    → Clash s r → w ≡ getD listed r 0 → Decides (SequenceFault s r) (not (eqb w 1))
 clash-judged {s} {listed} {r} {w} marks clash e = go (eqb w 1) refl
   where
     go : (b : Bool) → eqb w 1 ≡ b → Decides (SequenceFault s r) (not b)

@@ -44,11 +44,13 @@ module _ (test : ℕ → Bool) where
       or-itself false = refl
 
       go : Dec (k < n) → Dec (k ≡ n) → ((ltb k n && test k) || (eqb k n && test n)) ≡ (ltb k (n + 1) && test k)
-      go (yes h) d = rw (lt-ltb k n h, ne-eqb k n (λ e. omega arith), lt-ltb k (n + 1) (omega arith)) (or-itself (test k))
+      go (yes h) d =
+          rw (lt-ltb k n h, ne-eqb k n (λ e. omega arith), lt-ltb k (n + 1) (omega arith)) (or-itself (test k))
       go (no f) (yes e) = rw (le-ltb k n (not-less f), eq-eqb k n e, lt-ltb k (n + 1) (omega arith)) (ap test (sym e))
       go (no f) (no g) = let l = not-less f in rw (le-ltb k n l, ne-eqb k n g, le-ltb k (n + 1) (omega arith))
 
-pub collects-more : {test : ℕ → Bool} {n w v : ℕ} {b : Bool} → Collects test n w → b ≡ test n → MemberAdded w n b v → Collects test (n + 1) v
+pub collects-more : {test : ℕ → Bool} {n w v : ℕ} {b : Bool} → Collects test n w
+    → b ≡ test n → MemberAdded w n b v → Collects test (n + 1) v
 collects-more {test} {n} {w} c e a = record { members = λ k. rw (a .members k, c .members k, e) (below-or-at test n k) }
 
 pub collected : {test : ℕ → Bool} {n w k : ℕ} → Collects test n w → k < n → bit w k ≡ test k
@@ -69,8 +71,10 @@ pow-positive (suc n) = omega (arith, two-pow n, pow-positive n)
 bit-ones : (n k : ℕ) → bit (2 ^ n - 1) k ≡ ltb k n
 unfolding bit
 bit-ones zero k = bit-none k ∙ sym (le-ltb k 0 (omega arith))
-bit-ones (suc n) zero = rw (two-pow n) (ap flag (ones-odd (2 ^ n) (pow-positive n))) ∙ sym (lt-ltb 0 (suc n) (omega arith))
-bit-ones (suc n) (suc k) = rw (two-pow n) (ap (λ (x : ℕ). bit x k) (ones-half (2 ^ n) (pow-positive n))) ∙ bit-ones n k ∙ go (decLt k n)
+bit-ones (suc n) zero =
+    rw (two-pow n) (ap flag (ones-odd (2 ^ n) (pow-positive n))) ∙ sym (lt-ltb 0 (suc n) (omega arith))
+bit-ones (suc n) (suc k) =
+    rw (two-pow n) (ap (λ (x : ℕ). bit x k) (ones-half (2 ^ n) (pow-positive n))) ∙ bit-ones n k ∙ go (decLt k n)
   where
     go : Dec (k < n) → ltb k n ≡ ltb (suc k) (suc n)
     go (yes h) = lt-ltb k n h ∙ sym (lt-ltb (suc k) (suc n) (omega arith))

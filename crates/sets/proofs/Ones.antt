@@ -14,7 +14,9 @@ ones-zero : ones 0 ≡ 0
 ones-zero = omega (arith, ones-le 0 0 (omega arith))
 
 ones-none : (s : ℕ) → ones s ≡ 0 → s ≡ 0
-ones-none = bin-ind (λ (n : ℕ). ones n ≡ 0 → n ≡ 0) (λ e. refl) (λ n ih e. omega (arith, ones-step n, ih (omega (arith, ones-step n))))
+ones-none =
+    bin-ind (λ (n : ℕ). ones n ≡ 0 → n ≡ 0) (λ e. refl)
+    (λ n ih e. omega (arith, ones-step n, ih (omega (arith, ones-step n))))
 
 odd : (x : ℕ) → flag x ≡ true → x < 2 → x ≡ 1
 odd zero e h = absurd (false≢true e)

@@ -31,7 +31,8 @@ module _ {T : StringTable} where
   pub walk-start : {k m : ℕ} → LastOf T (hashAt T k) k m → Walked T k m
   walk-start l = record { low = l .low; same = l .same; later = λ i h b e. l .later i h b (ap hashOf e) }
 
-  pub walk-step : (prior : List ℕ) {k m : ℕ} (j : ℕ) → suc j ≡ m → Linked T prior k → textOf T j ≢ textOf T k → Walked T k m → Walked T k (getD prior j 0)
+  pub walk-step : (prior : List ℕ) {k m : ℕ} (j : ℕ) → suc j ≡ m → Linked T prior k
+      → textOf T j ≢ textOf T k → Walked T k m → Walked T k (getD prior j 0)
   walk-step prior {k} {m} j e linked f w =
       let low = w .low in
       let l = linked j (omega arith) in
@@ -50,7 +51,8 @@ module _ {T : StringTable} where
   pub lasts-none : Lasts T (zeros 512) 0
   lasts-none = record {
     size = length-replicate {A = ℕ} 512 0;
-    each = λ h l. rw (getD-zeros 512 h) (record { low = omega arith; same = λ j e. absurd (omega arith); later = λ i b m. absurd (omega arith) });
+    each = λ h l. rw (getD-zeros 512 h)
+        (record { low = omega arith; same = λ j e. absurd (omega arith); later = λ i b m. absurd (omega arith) });
   }
 
   -- one string more
@@ -63,12 +65,21 @@ module _ {T : StringTable} where
       go : (h : ℕ) → h < maxStrings → Dec (h ≡ hashAt T n) → LastOf T h (n + 1) (getD (set last (hashAt T n) v) h 0)
       go h l (yes e) =
           rw (e, getD-set-same last (hashAt T n) v 0 (omega (arith, s .size, hash-less (textOf T n))), ve)
-          (record { low = omega arith; same = λ j z. (let y : j ≡ n = omega arith in ap (hashAt T) y); later = λ i b m. absurd (omega arith) })
+          (record {
+            low = omega arith;
+            same = λ j z. (let y : j ≡ n = omega arith in ap (hashAt T) y);
+            later = λ i b m. absurd (omega arith);
+          })
       go h l (no f) =
           let o = s .each h l in
           let b = o .low in
           rw (getD-set-other last (hashAt T n) h v 0 f)
-          (record { low = omega arith; same = o .same; later = λ i y z. below-more (λ (x : ℕ). getD last h 0 ≤ x → hashAt T x ≢ h) n (λ x u v. o .later x v u) (λ u v. f (sym v)) i z y })
+          (record {
+            low = omega arith;
+            same = o .same;
+            later = λ i y z. below-more (λ (x : ℕ). getD last h 0 ≤ x → hashAt T x ≢ h)
+                n (λ x u v. o .later x v u) (λ u v. f (sym v)) i z y;
+          })
 
   -- by the hash of the next string, as it was told
   module _ {l : List ℕ} {n h : ℕ} (he : h ≡ hashOf l) (le : l ≡ textOf T n) where
@@ -78,7 +89,8 @@ module _ {T : StringTable} where
     pub lasts-told : {last : List ℕ} (v : ℕ) → v ≡ n + 1 → Lasts T last n → Lasts T (set last h v) (n + 1)
     lasts-told v ve s = rw (he, le) (lasts-more v ve s)
 
-  pub linked-more : (prior : List ℕ) {n m : ℕ} → n < length prior → LastOf T (hashAt T n) n m → Linked T prior n → Linked T (set prior n m) (n + 1)
+  pub linked-more : (prior : List ℕ) {n m : ℕ} → n < length prior
+      → LastOf T (hashAt T n) n m → Linked T prior n → Linked T (set prior n m) (n + 1)
   linked-more prior {n} {m} h l linked =
       below-more (λ (q : ℕ). LastOf T (hashAt T q) q (getD (set prior n m) q 0)) n
       (λ q b. rw (getD-set-other prior n q m 0 (λ e. omega arith)) (linked q b))

@@ -1,4 +1,4 @@
--- Laws of the string table.
+-- Laws of the string table: with all ends right a string lies within the bytes, and only repeated texts can be wrong.
 use mathlib.Core.Path.{_≡_, refl, ap}
 use mathlib.Core.Logic.{_≢_}
 use mathlib.Core.List.{List}
@@ -9,7 +9,9 @@ use lib.ListN.{length}
 use Rattle.tables.specs.Answers.{Clear}
 use Rattle.tables.specs.Tables.{StringTable}
 use Rattle.tables.proofs.Numbers.{not-less}
-use Rattle.strings.specs.Strings.{startOf, endOf, maxStrings, maxBytes, Falls, RepeatsText, FrontFault, EndFault, StringFault, StringsRight, bad-end, repeated, no-string, too-many-strings, too-many-bytes, first-not-empty, at-front, end-falls, last-end-wrong}
+use Rattle.strings.specs.Strings.{startOf, endOf, maxStrings, maxBytes, Falls, RepeatsText, FrontFault, EndFault}
+use Rattle.strings.specs.Strings.{StringFault, StringsRight, bad-end, repeated, no-string, too-many-strings}
+use Rattle.strings.specs.Strings.{too-many-bytes, first-not-empty, at-front, end-falls, last-end-wrong}
 
 -- a string other than the first starts at the end of the one before
 pub start-after : (ends : List ℕ) (k : ℕ) → k ≢ 0 → startOf ends k ≡ endOf ends (k - 1)
@@ -17,7 +19,8 @@ start-after ends zero h = absurd (h refl)
 start-after ends (suc k) h = let e : k ≡ suc k - 1 = omega arith in ap (endOf ends) e
 
 -- the counts keep their limits, and string 0 is empty
-pub front-right : {T : StringTable} → length (T .ends) ≢ 0 → length (T .ends) ≤ maxStrings → length (T .bytes) ≤ maxBytes → endOf (T .ends) 0 ≡ 0 → (k : ℕ) → ¬ FrontFault T k
+pub front-right : {T : StringTable} → length (T .ends) ≢ 0 → length (T .ends) ≤ maxStrings
+    → length (T .bytes) ≤ maxBytes → endOf (T .ends) 0 ≡ 0 → (k : ℕ) → ¬ FrontFault T k
 front-right some few short first k (no-string e z) = some e
 front-right some few short first k (too-many-strings h z) = omega arith
 front-right some few short first k (too-many-bytes h z) = omega arith
@@ -34,7 +37,8 @@ module _ {T : StringTable} (front : (k : ℕ) → ¬ FrontFault T k) where
   few-bytes = not-less (λ h. front 0 (too-many-bytes h refl))
 
   -- the ends before n are right if none of them falls and the last one, if it is among them, is the byte count
-  pub ends-right : (n : ℕ) → Clear (Falls (T .ends)) n → ((k : ℕ) → k < n → suc k ≡ length (T .ends) → endOf (T .ends) k ≡ length (T .bytes)) → Clear (EndFault T) n
+  pub ends-right : (n : ℕ) → Clear (Falls (T .ends)) n
+      → ((k : ℕ) → k < n → suc k ≡ length (T .ends) → endOf (T .ends) k ≡ length (T .bytes)) → Clear (EndFault T) n
   ends-right n rise last k h (at-front f) = front k f
   ends-right n rise last k h (end-falls f) = rise k h f
   ends-right n rise last k h (last-end-wrong e w) = w (last k h e)
@@ -63,7 +67,8 @@ first-at-front (too-many-bytes e z) = z
 first-at-front (first-not-empty e z) = z
 
 -- the first wrong end is the first fault: no repeated text counts beside it
-pub first-bad-end : {T : StringTable} {place : ℕ} → EndFault T place → Clear (EndFault T) place → StringFault T place × Clear (StringFault T) place
+pub first-bad-end : {T : StringTable} {place : ℕ} → EndFault T place
+    → Clear (EndFault T) place → StringFault T place × Clear (StringFault T) place
 first-bad-end {T} {place} wrong clear = (bad-end wrong, before)
   where
     before : Clear (StringFault T) place

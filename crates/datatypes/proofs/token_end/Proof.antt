@@ -13,7 +13,8 @@ use Rattle.datatypes.proofs.token_end.Statement.{statement}
 use Rattle.datatypes.proofs.token_end.Tie as tie
 
 abbrev Inv-loop : tie.InvT-loop
-Inv-loop s from to₀ to = (from ≤ to) × (to ≤ max from (length s)) × ((i : ℕ) → i < to → from ≤ i → space (getD s i 0) ≡ false)
+Inv-loop s from to₀ to =
+    (from ≤ to) × (to ≤ max from (length s)) × ((i : ℕ) → i < to → from ≤ i → space (getD s i 0) ≡ false)
 
 abbrev μ-loop : tie.MeasureT-loop
 μ-loop s from to₀ to = length s - to
@@ -46,13 +47,21 @@ loop-less c = omega arith
 loop-again : tie.Need-loop-again Inv-loop μ-loop
 loop-again c =
     let at = c .before .before .before .before in
-    let passed = at .loop .inv in
-    (omega arith, omega (arith, le-max-right (at .before .before .args .from) (length (now (at .before .before .args .s)))), below-more _ _ (passed .2) (λ h. sym (c .before .is-space .ensures) ∙ c .if1 .left))
+    let passed = at .loop .inv in (
+      omega arith,
+      omega (arith, le-max-right (at .before .before .args .from) (length (now (at .before .before .args .s)))),
+      below-more _ _ (passed .2) (λ h. sym (c .before .is-space .ensures) ∙ c .if1 .left),
+    )
 
 returns-2 : tie.Need-returns-2 Inv-loop μ-loop
 returns-2 c =
     let passed = c .before .loop .inv in
-    record { onward = passed .0; within = passed .1; unbroken = λ i h g. passed .2 i g h; ended = λ h. absurd (omega arith) }
+    record {
+      onward = passed .0;
+      within = passed .1;
+      unbroken = λ i h g. passed .2 i g h;
+      ended = λ h. absurd (omega arith);
+    }
 
 pub token-end-spec : {M : Type 1} → statement M
 token-end-spec =

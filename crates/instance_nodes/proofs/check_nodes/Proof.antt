@@ -19,10 +19,14 @@ returns : tie.Need-returns
 returns c = found-first _ (c .before .before .check-size .ensures) (c .enum-told2 .given .1) first-bad-size
 
 first-wrong-node-requires : tie.Need-first-wrong-node-requires
-first-wrong-node-requires c κs = few-nodes (found-none _ (c .before .before .check-size .ensures) (c .enum-told .given .1))
+first-wrong-node-requires c κs =
+    few-nodes (found-none _ (c .before .before .check-size .ensures) (c .enum-told .given .1))
 
 returns-2 : tie.Need-returns-2
-returns-2 c = let right = found-none _ (c .before .before .before .check-size .ensures) (c .before .enum-told .given .1) in finds-same (c .first-wrong-node .result) (λ r f. bad-node (f .0) (f .1)) (only-nodes right) (c .first-wrong-node .ensures)
+returns-2 c =
+    let right = found-none _ (c .before .before .before .check-size .ensures) (c .before .enum-told .given .1) in
+    finds-same (c .first-wrong-node .result) (λ r f. bad-node (f .0) (f .1))
+    (only-nodes right) (c .first-wrong-node .ensures)
 
 pub check-nodes-spec : {M : Type 1} → statement M
 check-nodes-spec =

@@ -25,7 +25,8 @@ returns-3 c = rw (c .before .match .keys3, c .is-nonempty2 .ensures)
 
 returns-4 : tie.Need-returns-4
 unfolding fieldsRight
-returns-4 c = rw (ne-eqb _ 1 (c .match .rest .0 .0 .1), ne-eqb _ 2 (c .match .rest .0 .1), ne-eqb _ 3 (c .match .rest .1))
+returns-4 c =
+    rw (ne-eqb _ 1 (c .match .rest .0 .0 .1), ne-eqb _ 2 (c .match .rest .0 .1), ne-eqb _ 3 (c .match .rest .1))
 
 pub fields-right-spec : {M : Type 1} → statement M
 fields-right-spec =

@@ -36,22 +36,44 @@ is-wide-requires : tie.Need-is-wide-requires Inv-loop μ-loop
 is-wide-requires c κs = search needs
 
 cast-t13 : tie.Need-cast-t13 Inv-loop μ-loop
-cast-t13 c = omega (arith, c .before .before .before .before .before .loop-test .taken, c .before .before .before .before .before .before .before .before .before .before .pre .0)
+cast-t13 c =
+    let d = c .before .before .before .before .before in
+    omega (arith, d .loop-test .taken, d .before .before .before .before .before .pre .0)
 
 returns : tie.Need-returns Inv-loop μ-loop
-returns c = (said-yes (tells-wide (c .before .before .before .before .before .before .before .before .before .before .args .instance .now) (c .before .before .before .before .before .before .loop .e) (c .before .before .before .before .before .before .before .before .before .before .pre .0) (c .before .before .before .before .before .loop-test .taken) (c .before .before .before .before .before .before .before .before .before .before .pre .1) (c .before .before .before .before .before .before .before .before .before .before .pre .2) (c .before .before .before .before .kind .ensures) (c .before .before .before .word .ensures) (c .before .before .word2 .ensures) (c .before .is-wide .ensures)) (c .if1 .taken), c .before .before .before .before .before .before .loop .inv .1)
+returns c =
+    let c₁ = c .before .before .before .before in
+    let c₂ = c₁ .before .before in
+    let c₃ = c₂ .before .before .before .before in (
+      said-yes (tells-wide (c₃ .args .instance .now) (c₂ .loop .e) (c₃ .pre .0) (c₁ .before .loop-test .taken)
+          (c₃ .pre .1) (c₃ .pre .2) (c₁ .kind .ensures) (c .before .before .before .word .ensures)
+          (c .before .before .word2 .ensures) (c .before .is-wide .ensures)) (c .if1 .taken),
+      c₂ .loop .inv .1,
+    )
 
 add-e : tie.Need-add-e Inv-loop μ-loop
-add-e c = omega (arith, c .before .before .before .before .before .loop-test .taken, c .before .before .before .before .before .before .before .before .before .before .pre .0)
+add-e c =
+    let d = c .before .before .before .before .before in
+    omega (arith, d .loop-test .taken, d .before .before .before .before .before .pre .0)
 
 loop-less : tie.Need-loop-less Inv-loop μ-loop
 loop-less c = omega (arith, c .before .before .before .before .before .loop-test .taken)
 
 loop-again : tie.Need-loop-again Inv-loop μ-loop
-loop-again c = (omega (arith, c .before .before .before .before .before .loop-test .taken), below-more _ _ (c .before .before .before .before .before .before .loop .inv .1) (said-no (tells-wide (c .before .before .before .before .before .before .before .before .before .before .args .instance .now) (c .before .before .before .before .before .before .loop .e) (c .before .before .before .before .before .before .before .before .before .before .pre .0) (c .before .before .before .before .before .loop-test .taken) (c .before .before .before .before .before .before .before .before .before .before .pre .1) (c .before .before .before .before .before .before .before .before .before .before .pre .2) (c .before .before .before .before .kind .ensures) (c .before .before .before .word .ensures) (c .before .before .word2 .ensures) (c .before .is-wide .ensures)) (c .if1 .left)))
+loop-again c =
+    let c₁ = c .before .before .before in
+    let c₂ = c₁ .before .before in
+    let c₃ = c₂ .before .before .before .before .before in (
+      omega (arith, c₂ .loop-test .taken),
+      below-more _ _ (c₂ .before .loop .inv .1) (said-no (tells-wide (c₃ .args .instance .now) (c₂ .before .loop .e)
+          (c₃ .pre .0) (c₂ .loop-test .taken) (c₃ .pre .1) (c₃ .pre .2) (c₁ .before .kind .ensures)
+          (c₁ .word .ensures) (c .before .before .word2 .ensures) (c .before .is-wide .ensures)) (c .if1 .left)),
+    )
 
 returns-2 : tie.Need-returns-2 Inv-loop μ-loop
-returns-2 c = finds-none _ (c .before .loop .inv .1) (λ k f. omega (arith, c .loop-test .left, wide-row (c .before .before .before .before .before .args .instance .now) k f))
+returns-2 c =
+    finds-none _ (c .before .loop .inv .1) (λ k f.
+    omega (arith, c .loop-test .left, wide-row (c .before .before .before .before .before .args .instance .now) k f))
 
 pub first-wide-spec : {M : Type 1} → statement M
 first-wide-spec =

@@ -9,13 +9,17 @@ parent-requires : tie.Need-parent-requires
 parent-requires c κs = search needs
 
 returns : tie.Need-returns
-returns c = λ twin. c .if1 .taken (c .before .parent .ensures ∙ attribute-parent (c .before .before .before .args .instance .now) (c .before .before .before .args .p) (c .before .before .before .args .q) (twin .0))
+returns c =
+    let a = c .before .before .before .args in
+    λ twin. c .if1 .taken (c .before .parent .ensures ∙ attribute-parent (a .instance .now) (a .p) (a .q) (twin .0))
 
 kind-requires : tie.Need-kind-requires
 kind-requires c κs = search needs
 
 returns-2 : tie.Need-returns-2
-returns-2 c = λ twin. c .if2 .taken (c .before .kind .ensures ∙ attribute-kind (c .before .before .before .before .before .args .instance .now) (c .before .before .before .before .before .args .p) (c .before .before .before .before .before .args .q) (twin .0))
+returns-2 c =
+    let a = c .before .before .before .before .before .args in
+    λ twin. c .if2 .taken (c .before .kind .ensures ∙ attribute-kind (a .instance .now) (a .p) (a .q) (twin .0))
 
 field-a-requires : tie.Need-field-a-requires
 field-a-requires c κs = search needs
@@ -36,7 +40,17 @@ returns-4 : tie.Need-returns-4
 returns-4 c = search needs
 
 returns-5 : tie.Need-returns-5
-returns-5 c = (attribute-told (c .before .before .before .before .before .before .before .before .before .before .before .args .instance .now) (c .before .before .before .before .before .before .before .before .before .before .before .args .p) (c .before .before .before .before .before .before .before .before .before .before .before .args .q) (sym (c .before .before .before .before .before .before .before .before .before .parent .ensures) ∙ c .before .before .before .before .before .before .before .before .if1 .left) (sym (c .before .before .before .before .before .before .before .kind .ensures) ∙ c .before .before .before .before .before .before .if2 .left), (sym (c .before .before .before .before .before .field-a .ensures) ∙ c .before .before .before .if3 .left ∙ c .before .before .before .before .field-a2 .ensures, sym (c .before .before .field-b .ensures) ∙ c .if4 .left ∙ c .before .field-b2 .ensures))
+returns-5 c =
+    let d = c .before .before .before .before .before .before in
+    let a = d .before .before .before .before .before .args in (
+      attribute-told (a .instance .now) (a .p) (a .q) (sym (d .before .before .before .parent .ensures)
+          ∙ d .before .before .if1 .left) (sym (d .before .kind .ensures) ∙ d .if2 .left),
+      (
+        sym (c .before .before .before .before .before .field-a .ensures)
+            ∙ c .before .before .before .if3 .left ∙ c .before .before .before .before .field-a2 .ensures,
+        sym (c .before .before .field-b .ensures) ∙ c .if4 .left ∙ c .before .field-b2 .ensures,
+      ),
+    )
 
 pub is-twin-spec : {M : Type 1} → statement M
 is-twin-spec =

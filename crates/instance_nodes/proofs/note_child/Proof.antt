@@ -13,7 +13,9 @@ is-child-requires : tie.Need-is-child-requires
 is-child-requires c κs = search needs
 
 returns : tie.Need-returns
-returns c = noted-other (c .before .before .before .before .before .pre) (c .before .before .kind .ensures) (sym (c .before .is-child .ensures) ∙ not-true _ (c .if1 .taken))
+returns c =
+    noted-other (c .before .before .before .before .before .pre) (c .before .before .kind .ensures)
+    (sym (c .before .is-child .ensures) ∙ not-true _ (c .if1 .taken))
 
 parent-requires : tie.Need-parent-requires
 parent-requires c κs = search needs
@@ -31,10 +33,15 @@ same-length : tie.Need-same-length
 same-length c = search needs
 
 returns-2 : tie.Need-returns-2
-returns-2 c = noted (c .before .before .before .before .before .before .before .pre) (c .before .parent .ensures) (c .before .before .before .before .kind .ensures) (sym (c .before .before .before .is-child .ensures) ∙ not-false _ (c .before .before .if1 .left)) (c .if2 .taken)
+returns-2 c =
+    noted (c .before .before .before .before .before .before .before .pre)
+    (c .before .parent .ensures) (c .before .before .before .before .kind .ensures)
+    (sym (c .before .before .before .is-child .ensures) ∙ not-false _ (c .before .before .if1 .left)) (c .if2 .taken)
 
 returns-3 : tie.Need-returns-3
-returns-3 c = noted-outside (c .before .before .before .before .before .before .before .pre) (c .before .parent .ensures) (c .if2 .left)
+returns-3 c =
+    noted-outside (c .before .before .before .before .before .before .before .pre)
+    (c .before .parent .ensures) (c .if2 .left)
 
 pub note-child-spec : {M : Type 1} → statement M
 note-child-spec =

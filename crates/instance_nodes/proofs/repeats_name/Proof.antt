@@ -25,7 +25,9 @@ is-twin-requires : tie.Need-is-twin-requires Inv-loop μ-loop
 is-twin-requires c κs = search needs
 
 returns : tie.Need-returns Inv-loop μ-loop
-returns c = repeats (c .before .before .before .loop .q) (c .before .before .before .loop .inv .0) (c .before .before .loop-test .taken) (said-yes (c .before .is-twin .ensures) (c .if1 .taken))
+returns c =
+    repeats (c .before .before .before .loop .q) (c .before .before .before .loop .inv .0)
+    (c .before .before .loop-test .taken) (said-yes (c .before .is-twin .ensures) (c .if1 .taken))
 
 add-q-2 : tie.Need-add-q-2 Inv-loop μ-loop
 add-q-2 c = omega arith
@@ -34,7 +36,12 @@ loop-less : tie.Need-loop-less Inv-loop μ-loop
 loop-less c = omega arith
 
 loop-again : tie.Need-loop-again Inv-loop μ-loop
-loop-again c = (omega (arith, c .before .before .before .loop .inv .0), below-more (λ (x : ℕ). c .before .before .before .before .before .args .p < x → ¬ Twin (c .before .before .before .before .before .args .instance .now) (c .before .before .before .before .before .args .p) x (c .before .before .before .before .before .args .r)) _ (c .before .before .before .loop .inv .1) (λ l. said-no (c .before .is-twin .ensures) (c .if1 .left)))
+loop-again c =
+    let a = c .before .before .before .before .before .args in (
+      omega (arith, c .before .before .before .loop .inv .0),
+      below-more (λ (x : ℕ). a .p < x → ¬ Twin (a .instance .now) (a .p) x (a .r)) _
+          (c .before .before .before .loop .inv .1) (λ l. said-no (c .before .is-twin .ensures) (c .if1 .left)),
+    )
 
 returns-2 : tie.Need-returns-2 Inv-loop μ-loop
 returns-2 c = no-repeats (c .loop-test .left) (c .before .loop .inv .1)

@@ -18,7 +18,9 @@ returns-2 : tie.Need-returns-2
 returns-2 c = λ right. c .if2 .taken (c .before .parent .ensures ∙ root-told _ right .1)
 
 returns-3 : tie.Need-returns-3
-returns-3 c = root-right _ (sym (c .before .before .before .kind .ensures) ∙ c .before .before .if1 .left) (sym (c .before .parent .ensures) ∙ c .if2 .left)
+returns-3 c =
+    root-right _ (sym (c .before .before .before .kind .ensures) ∙ c .before .before .if1 .left)
+    (sym (c .before .parent .ensures) ∙ c .if2 .left)
 
 pub root-right-spec : {M : Type 1} → statement M
 root-right-spec = tie.close (tie.spec kind-requires returns parent-requires returns-2 returns-3)

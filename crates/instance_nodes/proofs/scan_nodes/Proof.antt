@@ -16,7 +16,8 @@ use Rattle.instance_nodes.proofs.scan_nodes.Statement.{statement}
 use Rattle.instance_nodes.proofs.scan_nodes.Tie as tie
 
 abbrev Inv-loop : tie.InvT-loop
-Inv-loop strings instance last₀ nodes r₀ last r = (r ≤ nodesOf instance) × Clear (BadNode strings instance) r × Rooted instance r × LastChildren instance last r
+Inv-loop strings instance last₀ nodes r₀ last r =
+    (r ≤ nodesOf instance) × Clear (BadNode strings instance) r × Rooted instance r × LastChildren instance last r
 
 abbrev μ-loop : tie.MeasureT-loop
 μ-loop strings instance last₀ nodes r₀ last r = nodes - r
@@ -28,34 +29,60 @@ cast-wrong-node : tie.Need-cast-wrong-node Inv-loop μ-loop
 cast-wrong-node c = omega (arith, c .before .loop-test .taken, c .before .before .before .before .before .pre .0)
 
 wrong-node-requires : tie.Need-wrong-node-requires Inv-loop μ-loop
-wrong-node-requires c κs = (omega (arith, c .before .loop-test .taken, c .before .before .before .before .before .pre .0), c .before .before .loop .inv .2, c .before .before .loop .inv .3)
+wrong-node-requires c κs = (
+  omega (arith, c .before .loop-test .taken, c .before .before .before .before .before .pre .0),
+  c .before .before .loop .inv .2,
+  c .before .before .loop .inv .3,
+)
 
 cast-t12 : tie.Need-cast-t12 Inv-loop μ-loop
-cast-t12 c = omega (arith, c .before .before .before .loop-test .taken, c .before .before .before .before .before .before .before .pre .0)
+cast-t12 c =
+    let d = c .before .before .before in
+    omega (arith, d .loop-test .taken, d .before .before .before .before .pre .0)
 
 same-length : tie.Need-same-length Inv-loop μ-loop
-same-length c = c .before .before .before .before .loop .inv .3 .size ∙ sym (ap length (c .before .before .before .before .before .before .before .pre .1) ∙ length-replicate {A = ℕ} maxNodes 0)
+same-length c =
+    let d = c .before .before .before .before in
+    d .loop .inv .3 .size ∙ sym (ap length (d .before .before .before .pre .1) ∙ length-replicate {A = ℕ} maxNodes 0)
 
 returns : tie.Need-returns Inv-loop μ-loop
-returns c = ((c .before .before .before .loop-test .taken, said-yes (c .before .wrong-node .ensures) (c .if1 .taken)), c .before .before .before .before .loop .inv .1)
+returns c =
+    let d = c .before .before .before in
+    ((d .loop-test .taken, said-yes (c .before .wrong-node .ensures) (c .if1 .taken)), d .before .loop .inv .1)
 
 cast-note-child : tie.Need-cast-note-child Inv-loop μ-loop
-cast-note-child c = omega (arith, c .before .before .before .before .loop-test .taken, c .before .before .before .before .before .before .before .before .pre .0)
+cast-note-child c =
+    let d = c .before .before .before .before in
+    omega (arith, d .loop-test .taken, d .before .before .before .before .pre .0)
 
 note-child-requires : tie.Need-note-child-requires Inv-loop μ-loop
 note-child-requires c κs = c .before .before .before .before .before .loop .inv .3
 
 add-r : tie.Need-add-r Inv-loop μ-loop
-add-r c = omega (arith, c .before .before .before .before .before .before .before .loop-test .taken, c .before .before .before .before .before .before .before .before .before .before .before .pre .0)
+add-r c =
+    let d = c .before .before .before .before .before .before .before in
+    omega (arith, d .loop-test .taken, d .before .before .before .before .pre .0)
 
 loop-less : tie.Need-loop-less Inv-loop μ-loop
 loop-less c = omega (arith, c .before .before .before .before .before .before .before .loop-test .taken)
 
 loop-again : tie.Need-loop-again Inv-loop μ-loop
-loop-again c = let right = said-no (c .before .before .before .before .before .wrong-node .ensures) (c .before .before .before .before .if1 .left) in (omega (arith, c .before .before .before .before .before .before .before .loop-test .taken), below-more _ _ (c .before .before .before .before .before .before .before .before .loop .inv .1) (λ f. right (f .1)), rooted-more (c .before .before .before .before .before .before .before .before .loop .inv .2) (omega (arith, c .before .before .before .before .before .before .before .loop-test .taken, c .before .before .before .before .before .before .before .before .before .before .before .pre .0)) (λ f. right (bad-parent f)), c .before .before .note-child .ensures)
+loop-again c =
+    let c₁ = c .before .before .before .before in
+    let c₂ = c₁ .before .before .before in
+    let right = said-no (c₁ .before .wrong-node .ensures) (c₁ .if1 .left) in (
+      omega (arith, c₂ .loop-test .taken),
+      below-more _ _ (c₂ .before .loop .inv .1) (λ f. right (f .1)),
+      rooted-more (c₂ .before .loop .inv .2)
+          (omega (arith, c₂ .loop-test .taken, c₂ .before .before .before .before .pre .0))
+          (λ f. right (bad-parent f)),
+      c .before .before .note-child .ensures,
+    )
 
 same-length-2 : tie.Need-same-length-2 Inv-loop μ-loop
-same-length-2 c = c .before .loop .inv .3 .size ∙ sym (ap length (c .before .before .before .before .pre .1) ∙ length-replicate {A = ℕ} maxNodes 0)
+same-length-2 c =
+    c .before .loop .inv .3 .size
+    ∙ sym (ap length (c .before .before .before .before .pre .1) ∙ length-replicate {A = ℕ} maxNodes 0)
 
 returns-2 : tie.Need-returns-2 Inv-loop μ-loop
 returns-2 c = finds-none _ (c .before .loop .inv .1) (λ k f. omega (arith, c .loop-test .left, f .0))

@@ -24,19 +24,36 @@ fields-right-requires : tie.Need-fields-right-requires
 fields-right-requires c κs = search needs
 
 returns : tie.Need-returns
-returns c = bad-fields (fields-tested (c .before .before .before .before .before .before .before .before .args .strings) (c .before .before .before .before .before .before .before .before .args .instance .now) (c .before .before .before .before .before .before .before .before .args .r) (c .before .before .before .before .before .kind .ensures) (c .before .before .before .before .field-a .ensures) (c .before .before .before .field-b .ensures) (c .before .before .field-c .ensures) (c .before .fields-right .ensures) ∙ not-true _ (c .if1 .taken))
+returns c =
+    let d = c .before .before .before in
+    let a = d .before .before .before .before .before .args in
+    bad-fields (fields-tested (a .strings) (a .instance .now) (a .r) (d .before .before .kind .ensures)
+    (d .before .field-a .ensures) (d .field-b .ensures) (c .before .before .field-c .ensures)
+    (c .before .fields-right .ensures) ∙ not-true _ (c .if1 .taken))
 
 parent-right-requires : tie.Need-parent-right-requires
 parent-right-requires c κs = search needs
 
 returns-2 : tie.Need-returns-2
-returns-2 c = bad-parent (said-no (c .before .parent-right .ensures) (not-true (c .before .parent-right .result) (c .if2 .taken)))
+returns-2 c =
+    bad-parent (said-no (c .before .parent-right .ensures) (not-true (c .before .parent-right .result) (c .if2 .taken)))
 
 misplaced-requires : tie.Need-misplaced-requires
-misplaced-requires c κs = record { few = c .before .before .before .before .before .before .before .before .before .before .pre .0; rooted = c .before .before .before .before .before .before .before .before .before .before .pre .1; last-children = c .before .before .before .before .before .before .before .before .before .before .pre .2; parent = said-yes (c .before .parent-right .ensures) (not-false (c .before .parent-right .result) (c .if2 .left)) }
+misplaced-requires c κs = record {
+  few = c .before .before .before .before .before .before .before .before .before .before .pre .0;
+  rooted = c .before .before .before .before .before .before .before .before .before .before .pre .1;
+  last-children = c .before .before .before .before .before .before .before .before .before .before .pre .2;
+  parent = said-yes (c .before .parent-right .ensures) (not-false (c .before .parent-right .result) (c .if2 .left));
+}
 
 returns-3 : tie.Need-returns-3
-returns-3 c = c .misplaced .ensures (c .before .before .before .before .before .before .before .before .before .before .before .args .strings) (fields-tested (c .before .before .before .before .before .before .before .before .before .before .before .args .strings) (c .before .before .before .before .before .before .before .before .before .before .before .args .instance .now) (c .before .before .before .before .before .before .before .before .before .before .before .args .r) (c .before .before .before .before .before .before .before .before .kind .ensures) (c .before .before .before .before .before .before .before .field-a .ensures) (c .before .before .before .before .before .before .field-b .ensures) (c .before .before .before .before .before .field-c .ensures) (c .before .before .before .before .fields-right .ensures) ∙ not-false _ (c .before .before .before .if1 .left))
+returns-3 c =
+    let d = c .before .before .before .before .before .before in
+    let a = d .before .before .before .before .before .args in
+    c .misplaced .ensures (a .strings) (fields-tested (a .strings) (a .instance .now)
+    (a .r) (d .before .before .kind .ensures) (d .before .field-a .ensures)
+    (d .field-b .ensures) (c .before .before .before .before .before .field-c .ensures)
+    (c .before .before .before .before .fields-right .ensures) ∙ not-false _ (c .before .before .before .if1 .left))
 
 pub wrong-node-spec : {M : Type 1} → statement M
 wrong-node-spec =

@@ -25,16 +25,21 @@ enum-told c = search needs
 returns : tie.Need-returns
 returns c =
     let args = c .before .before .before .before .before .args in
-    passing.line-missing (count (args .key .now) (args .limit)) (rw (c .enum-told .given .1) at (c .before .before .line-end .ensures))
+    passing.line-missing (count (args .key .now) (args .limit))
+    (rw (c .enum-told .given .1) at (c .before .before .line-end .ensures))
 
 sub-count-of : tie.Need-sub-count-of
 sub-count-of c = (rw (c .before .e .given .1) at (c .before .before .before .line-end .ensures)) .from
 
 part-count-of-start : tie.Need-part-count-of-start
-part-count-of-start c = let l = (rw (c .before .e .given .1) at (c .before .before .before .line-end .ensures)) in search (needs, l .from)
+part-count-of-start c =
+    let l = (rw (c .before .e .given .1) at (c .before .before .before .line-end .ensures)) in
+    search (needs, l .from)
 
 part-count-of-end : tie.Need-part-count-of-end
-part-count-of-end c = let l = (rw (c .before .e .given .1) at (c .before .before .before .line-end .ensures)) in search (needs, l .within)
+part-count-of-end c =
+    let l = (rw (c .before .e .given .1) at (c .before .before .before .line-end .ensures)) in
+    search (needs, l .within)
 
 count-of-requires : tie.Need-count-of-requires
 count-of-requires c κs = search needs
@@ -51,7 +56,10 @@ returns-2 c =
     let line-end = c .before .before .before .before .before .before .before .line-end in
     let e = c .before .before .before .before .before .e in
     let l = rw (e .given .1) at (line-end .ensures) in
-    passing.line-stops (count (args .key .now) (args .limit)) (between (args .file .now) (args .at) (e .given .0 .0)) (linesOf (drop (e .given .0 .0 + 1) (args .file .now))) (l .splits) (no-value (count (args .key .now) (args .limit) (between (args .file .now) (args .at) (e .given .0 .0))) (sym (c .before .before .count-of .ensures) ∙ c .enum-told2 .given .1))
+    passing.line-stops (count (args .key .now) (args .limit)) (between (args .file .now) (args .at) (e .given .0 .0))
+    (linesOf (drop (e .given .0 .0 + 1) (args .file .now))) (l .splits)
+    (no-value (count (args .key .now) (args .limit) (between (args .file .now) (args .at) (e .given .0 .0)))
+    (sym (c .before .before .count-of .ensures) ∙ c .enum-told2 .given .1))
 
 add-t10 : tie.Need-add-t10
 add-t10 c =
@@ -66,8 +74,13 @@ returns-3 c =
     let line-end = c .before .before .before .before .before .before .before .before .line-end in
     let e = c .before .before .before .before .before .before .e in
     let l = rw (e .given .1) at (line-end .ensures) in
-    let v = value-is (count (args .key .now) (args .limit) (between (args .file .now) (args .at) (e .given .0 .0))) (sym (c .before .before .before .count-of .ensures) ∙ c .before .n .given .1) in
-    record { keeps = count-limit (args .key .now) (args .limit) (between (args .file .now) (args .at) (e .given .0 .0)) v; passes = passing.line-passes (count (args .key .now) (args .limit)) (between (args .file .now) (args .at) (e .given .0 .0)) (linesOf (drop (e .given .0 .0 + 1) (args .file .now))) (l .splits) v }
+    let v = value-is (count (args .key .now) (args .limit) (between (args .file .now) (args .at) (e .given .0 .0)))
+    (sym (c .before .before .before .count-of .ensures) ∙ c .before .n .given .1) in
+    record {
+      keeps = count-limit (args .key .now) (args .limit) (between (args .file .now) (args .at) (e .given .0 .0)) v;
+      passes = passing.line-passes (count (args .key .now) (args .limit)) (between (args .file .now)
+          (args .at) (e .given .0 .0)) (linesOf (drop (e .given .0 .0 + 1) (args .file .now))) (l .splits) v;
+    }
 
 pub count-line-spec : {M : Type 1} → statement M
 count-line-spec =

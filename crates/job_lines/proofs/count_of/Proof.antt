@@ -24,7 +24,8 @@ enum-told c = search needs
 returns : tie.Need-returns
 returns c =
     let args = c .before .before .before .before .before .args in
-    sym (ap asNumber (passing.count-no-key (args .key .now) (args .limit) (args .line .now) (rw (c .enum-told .given .1) at (c .before .before .key-end .ensures))))
+    sym (ap asNumber (passing.count-no-key (args .key .now) (args .limit) (args .line .now)
+    (rw (c .enum-told .given .1) at (c .before .before .key-end .ensures))))
 
 sub-read-number : tie.Need-sub-read-number
 sub-read-number c = (rw (c .before .p .given .1) at (c .before .before .before .key-end .ensures)) .within
@@ -52,28 +53,36 @@ returns-2 c =
     let key-end = c .before .before .before .before .before .before .before .key-end in
     let p = c .before .before .before .before .before .p in
     let k = rw (p .given .1) at (key-end .ensures) in
-    sym (ap asNumber (passing.count-no-number (args .key .now) (args .limit) (args .line .now) (key-rest k) (no-value (numberOf (between (args .line .now) (p .given .0 .0) (length (args .line .now)))) (sym (c .before .before .read-number .ensures) ∙ c .enum-told2 .given .1))))
+    sym (ap asNumber (passing.count-no-number (args .key .now) (args .limit) (args .line .now) (key-rest k)
+    (no-value (numberOf (between (args .line .now) (p .given .0 .0) (length (args .line .now))))
+    (sym (c .before .before .read-number .ensures) ∙ c .enum-told2 .given .1))))
 
 cast-if1 : tie.Need-cast-if1
 cast-if1 c = search needs
 
 returns-3 : tie.Need-returns-3
 returns-3 c =
-    let args = c .before .before .before .before .before .before .before .before .before .before .before .before .args in
-    let key-end = c .before .before .before .before .before .before .before .before .before .key-end in
-    let p = c .before .before .before .before .before .before .before .p in
+    let d = c .before .before .before .before .before .before .before in
+    let args = d .before .before .before .before .before .args in
+    let key-end = d .before .before .key-end in
+    let p = d .p in
     let read-number = c .before .before .before .before .read-number in
     let k = rw (p .given .1) at (key-end .ensures) in
-    sym (ap asNumber (passing.count-over (args .key .now) (args .limit) (args .line .now) (key-rest k) (value-is (numberOf (between (args .line .now) (p .given .0 .0) (length (args .line .now)))) (sym (read-number .ensures) ∙ c .before .before .n .given .1)) (omega arith)))
+    sym (ap asNumber (passing.count-over (args .key .now) (args .limit) (args .line .now) (key-rest k)
+    (value-is (numberOf (between (args .line .now) (p .given .0 .0) (length (args .line .now))))
+    (sym (read-number .ensures) ∙ c .before .before .n .given .1)) (omega arith)))
 
 returns-4 : tie.Need-returns-4
 returns-4 c =
-    let args = c .before .before .before .before .before .before .before .before .before .before .before .before .args in
-    let key-end = c .before .before .before .before .before .before .before .before .before .key-end in
-    let p = c .before .before .before .before .before .before .before .p in
+    let d = c .before .before .before .before .before .before .before in
+    let args = d .before .before .before .before .before .args in
+    let key-end = d .before .before .key-end in
+    let p = d .p in
     let read-number = c .before .before .before .before .read-number in
     let k = rw (p .given .1) at (key-end .ensures) in
-    sym (ap asNumber (passing.count-is (args .key .now) (args .limit) (args .line .now) (key-rest k) (value-is (numberOf (between (args .line .now) (p .given .0 .0) (length (args .line .now)))) (sym (read-number .ensures) ∙ c .before .before .n .given .1)) (omega arith)))
+    sym (ap asNumber (passing.count-is (args .key .now) (args .limit) (args .line .now) (key-rest k)
+    (value-is (numberOf (between (args .line .now) (p .given .0 .0) (length (args .line .now))))
+    (sym (read-number .ensures) ∙ c .before .before .n .given .1)) (omega arith)))
 
 pub count-of-spec : {M : Type 1} → statement M
 count-of-spec =

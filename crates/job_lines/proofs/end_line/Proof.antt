@@ -26,7 +26,9 @@ returns c =
     λ t. (rw (c .enum-told .given .1) at (c .before .before .literal-line .ensures)) .on (args .line) _
 
 add-if1 : tie.Need-add-if1
-add-if1 c = let l = (rw (c .before .e .given .1) at (c .before .before .before .literal-line .ensures)) in omega (arith, l .within)
+add-if1 c =
+    let l = (rw (c .before .e .given .1) at (c .before .before .before .literal-line .ensures)) in
+    omega (arith, l .within)
 
 add-t12 : tie.Need-add-t12
 add-t12 c = search needs
@@ -36,7 +38,8 @@ returns-2 c =
     let args = c .before .before .before .before .before .before .before .args in
     let literal-line = c .before .before .before .before .literal-line in
     let l = rw (c .before .before .e .given .1) at (literal-line .ensures) in
-    λ t. l .passes .on (args .line) _ ∙ more-follows (args .file .now) t _ _ (c .if1 .taken) ∙ ap wrong (sym (add-one (args .line)))
+    λ t. l .passes .on (args .line) _ ∙ more-follows (args .file .now) t _ _ (c .if1 .taken)
+    ∙ ap wrong (sym (add-one (args .line)))
 
 returns-3 : tie.Need-returns-3
 returns-3 c =

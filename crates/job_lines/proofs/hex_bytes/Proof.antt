@@ -6,13 +6,15 @@ use lib.ListN.{length, drop, getD}
 use borrow.Author.Needs.{needs}
 use Rattle.job.specs.Numbers.{hexBytes, hexValue}
 use Rattle.job_numbers.proofs.Digits.{value-is, no-value}
-use Rattle.job_lines.proofs.Stored.{Storing, storing-none, storing-more, storing-fails, storing-done, storing-size}
+use Rattle.job_lines.proofs.Stored.{Storing, storing-none, storing-more}
+use Rattle.job_lines.proofs.Stored.{storing-fails, storing-done, storing-size}
 use Rattle.job_lines.proofs.HexPairs.{hex-odd, hex-end, hex-no-high, hex-no-low, hex-more, hex-small}
 use Rattle.job_lines.proofs.hex_bytes.Statement.{statement}
 use Rattle.job_lines.proofs.hex_bytes.Tie as tie
 
 abbrev Inv-loop : tie.InvT-loop
-Inv-loop text out₀ from to₀ i₀ out to i = (i ≤ length text) × (to + to ≡ from + from + i) × Storing (hexBytes text) out₀ from out to (hexBytes (drop i text))
+Inv-loop text out₀ from to₀ i₀ out to i =
+    (i ≤ length text) × (to + to ≡ from + from + i) × Storing (hexBytes text) out₀ from out to (hexBytes (drop i text))
 
 abbrev μ-loop : tie.MeasureT-loop
 μ-loop text out₀ from to₀ i₀ out to i = length text - i
@@ -53,7 +55,9 @@ returns-2 : tie.Need-returns-2 Inv-loop μ-loop
 returns-2 c =
     let args = c .before .before .before .before .before .before .before .before .before .args in
     let loop = c .before .before .before .before .before .before .loop in
-    storing-fails (loop .inv .2) (hex-no-high (args .text .now) (loop .i) (omega arith) (no-value (hexValue (getD (args .text .now) (loop .i) 0)) (sym (c .before .before .hex-digit .ensures) ∙ c .enum-told .given .1)))
+    storing-fails (loop .inv .2)
+    (hex-no-high (args .text .now) (loop .i) (omega arith) (no-value (hexValue (getD (args .text .now) (loop .i) 0))
+    (sym (c .before .before .hex-digit .ensures) ∙ c .enum-told .given .1)))
 
 add-hex-digit : tie.Need-add-hex-digit Inv-loop μ-loop
 add-hex-digit c = search needs
@@ -77,38 +81,63 @@ same-length-3 c =
 
 returns-3 : tie.Need-returns-3 Inv-loop μ-loop
 returns-3 c =
-    let args = c .before .before .before .before .before .before .before .before .before .before .before .before .before .before .args in
-    let loop = c .before .before .before .before .before .before .before .before .before .before .before .loop in
-    let hex-digit = c .before .before .before .before .before .before .before .hex-digit in
-    let high = c .before .before .before .before .before .high in
-    storing-fails (loop .inv .2) (hex-no-low (args .text .now) (loop .i) (omega arith) (value-is (hexValue (getD (args .text .now) (loop .i) 0)) (sym (hex-digit .ensures) ∙ high .given .1)) (no-value (hexValue (getD (args .text .now) (loop .i + 1) 0)) (sym (c .before .before .hex-digit2 .ensures) ∙ c .enum-told2 .given .1)))
+    let d = c .before .before .before .before .before in
+    let args = d .before .before .before .before .before .before .before .before .before .args in
+    let loop = d .before .before .before .before .before .before .loop in
+    let hex-digit = d .before .before .hex-digit in
+    let high = d .high in
+    storing-fails (loop .inv .2) (hex-no-low (args .text .now) (loop .i) (omega arith)
+    (value-is (hexValue (getD (args .text .now) (loop .i) 0)) (sym (hex-digit .ensures) ∙ high .given .1))
+    (no-value (hexValue (getD (args .text .now) (loop .i + 1) 0))
+    (sym (c .before .before .hex-digit2 .ensures) ∙ c .enum-told2 .given .1)))
 
 mul-put-u8 : tie.Need-mul-put-u8 Inv-loop μ-loop
 mul-put-u8 c =
-    let args = c .before .before .before .before .before .before .before .before .before .before .before .before .before .before .before .before .args in
-    let loop = c .before .before .before .before .before .before .before .before .before .before .before .before .before .loop in
-    let hex-digit = c .before .before .before .before .before .before .before .before .before .hex-digit in
-    let high = c .before .before .before .before .before .before .before .high in
+    let d = c .before .before .before .before .before .before .before in
+    let args = d .before .before .before .before .before .before .before .before .before .args in
+    let loop = d .before .before .before .before .before .before .loop in
+    let hex-digit = d .before .before .hex-digit in
+    let high = d .high in
     let hex-digit2 = c .before .before .before .before .hex-digit2 in
-    omega (arith, hex-small (getD (args .text .now) (loop .i) 0) (value-is (hexValue (getD (args .text .now) (loop .i) 0)) (sym (hex-digit .ensures) ∙ high .given .1)), hex-small (getD (args .text .now) (loop .i + 1) 0) (value-is (hexValue (getD (args .text .now) (loop .i + 1) 0)) (sym (hex-digit2 .ensures) ∙ c .before .before .low .given .1)))
+    omega (
+      arith,
+      hex-small (getD (args .text .now) (loop .i) 0)
+          (value-is (hexValue (getD (args .text .now) (loop .i) 0)) (sym (hex-digit .ensures) ∙ high .given .1)),
+      hex-small (getD (args .text .now) (loop .i + 1) 0) (value-is (hexValue (getD (args .text .now) (loop .i + 1) 0))
+          (sym (hex-digit2 .ensures) ∙ c .before .before .low .given .1)),
+    )
 
 add-put-u8 : tie.Need-add-put-u8 Inv-loop μ-loop
 add-put-u8 c =
-    let args = c .before .before .before .before .before .before .before .before .before .before .before .before .before .before .before .before .args in
-    let loop = c .before .before .before .before .before .before .before .before .before .before .before .before .before .loop in
-    let hex-digit = c .before .before .before .before .before .before .before .before .before .hex-digit in
-    let high = c .before .before .before .before .before .before .before .high in
+    let d = c .before .before .before .before .before .before .before in
+    let args = d .before .before .before .before .before .before .before .before .before .args in
+    let loop = d .before .before .before .before .before .before .loop in
+    let hex-digit = d .before .before .hex-digit in
+    let high = d .high in
     let hex-digit2 = c .before .before .before .before .hex-digit2 in
-    omega (arith, hex-small (getD (args .text .now) (loop .i) 0) (value-is (hexValue (getD (args .text .now) (loop .i) 0)) (sym (hex-digit .ensures) ∙ high .given .1)), hex-small (getD (args .text .now) (loop .i + 1) 0) (value-is (hexValue (getD (args .text .now) (loop .i + 1) 0)) (sym (hex-digit2 .ensures) ∙ c .before .before .low .given .1)))
+    omega (
+      arith,
+      hex-small (getD (args .text .now) (loop .i) 0)
+          (value-is (hexValue (getD (args .text .now) (loop .i) 0)) (sym (hex-digit .ensures) ∙ high .given .1)),
+      hex-small (getD (args .text .now) (loop .i + 1) 0) (value-is (hexValue (getD (args .text .now) (loop .i + 1) 0))
+          (sym (hex-digit2 .ensures) ∙ c .before .before .low .given .1)),
+    )
 
 cast-put-u8 : tie.Need-cast-put-u8 Inv-loop μ-loop
 cast-put-u8 c =
-    let args = c .before .before .before .before .before .before .before .before .before .before .before .before .before .before .before .before .args in
-    let loop = c .before .before .before .before .before .before .before .before .before .before .before .before .before .loop in
-    let hex-digit = c .before .before .before .before .before .before .before .before .before .hex-digit in
-    let high = c .before .before .before .before .before .before .before .high in
+    let d = c .before .before .before .before .before .before .before in
+    let args = d .before .before .before .before .before .before .before .before .before .args in
+    let loop = d .before .before .before .before .before .before .loop in
+    let hex-digit = d .before .before .hex-digit in
+    let high = d .high in
     let hex-digit2 = c .before .before .before .before .hex-digit2 in
-    omega (arith, hex-small (getD (args .text .now) (loop .i) 0) (value-is (hexValue (getD (args .text .now) (loop .i) 0)) (sym (hex-digit .ensures) ∙ high .given .1)), hex-small (getD (args .text .now) (loop .i + 1) 0) (value-is (hexValue (getD (args .text .now) (loop .i + 1) 0)) (sym (hex-digit2 .ensures) ∙ c .before .before .low .given .1)))
+    omega (
+      arith,
+      hex-small (getD (args .text .now) (loop .i) 0)
+          (value-is (hexValue (getD (args .text .now) (loop .i) 0)) (sym (hex-digit .ensures) ∙ high .given .1)),
+      hex-small (getD (args .text .now) (loop .i + 1) 0) (value-is (hexValue (getD (args .text .now) (loop .i + 1) 0))
+          (sym (hex-digit2 .ensures) ∙ c .before .before .low .given .1)),
+    )
 
 put-u8-requires : tie.Need-put-u8-requires Inv-loop μ-loop
 put-u8-requires c κs = search needs
@@ -124,13 +153,22 @@ loop-less c = omega arith
 
 loop-again : tie.Need-loop-again Inv-loop μ-loop
 loop-again c =
-    let args = c .before .before .before .before .before .before .before .before .before .before .before .before .before .before .before .before .before .before .before .args in
-    let loop = c .before .before .before .before .before .before .before .before .before .before .before .before .before .before .before .before .loop in
-    let hex-digit = c .before .before .before .before .before .before .before .before .before .before .before .before .hex-digit in
-    let high = c .before .before .before .before .before .before .before .before .before .before .high in
-    let hex-digit2 = c .before .before .before .before .before .before .before .hex-digit2 in
-    let low = c .before .before .before .before .before .low in
-    (omega arith, omega arith, storing-more (loop .inv .2) (high .given .0 .0 * 16 + low .given .0 .0) (hex-more (args .text .now) (loop .i) (omega arith) (value-is (hexValue (getD (args .text .now) (loop .i) 0)) (sym (hex-digit .ensures) ∙ high .given .1)) (value-is (hexValue (getD (args .text .now) (loop .i + 1) 0)) (sym (hex-digit2 .ensures) ∙ low .given .1))) (c .before .before .put-u8 .ensures))
+    let c₁ = c .before .before .before .before .before in
+    let c₂ = c₁ .before .before .before .before .before in
+    let args = c₂ .before .before .before .before .before .before .before .before .before .args in
+    let loop = c₂ .before .before .before .before .before .before .loop in
+    let hex-digit = c₂ .before .before .hex-digit in
+    let high = c₂ .high in
+    let hex-digit2 = c₁ .before .before .hex-digit2 in
+    let low = c₁ .low in (
+      omega arith,
+      omega arith,
+      storing-more (loop .inv .2) (high .given .0 .0 * 16 + low .given .0 .0)
+          (hex-more (args .text .now) (loop .i) (omega arith)
+          (value-is (hexValue (getD (args .text .now) (loop .i) 0)) (sym (hex-digit .ensures) ∙ high .given .1))
+          (value-is (hexValue (getD (args .text .now) (loop .i + 1) 0)) (sym (hex-digit2 .ensures) ∙ low .given .1)))
+          (c .before .before .put-u8 .ensures),
+    )
 
 same-length-4 : tie.Need-same-length-4 Inv-loop μ-loop
 same-length-4 c = storing-size (c .before .loop .inv .2)

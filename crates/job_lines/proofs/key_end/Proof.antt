@@ -45,13 +45,20 @@ loop-less c = omega arith
 loop-again : tie.Need-loop-again Inv-loop μ-loop
 loop-again c =
     let args = c .before .before .before .before .before .before .args in
-    let loop = c .before .before .before .before .before .loop in
-    (omega arith, omega arith, loop .inv .2 ∙ key-more (args .key .now) (args .line .now) (loop .i) (omega arith) (omega arith) (c .if2 .left))
+    let loop = c .before .before .before .before .before .loop in (
+      omega arith,
+      omega arith,
+      loop .inv .2 ∙ key-more (args .key .now) (args .line .now) (loop .i) (omega arith) (omega arith) (c .if2 .left),
+    )
 
 returns-3 : tie.Need-returns-3 Inv-loop μ-loop
 returns-3 c =
     let args = c .before .before .args in
-    record { within = c .before .loop .inv .1; is = c .before .loop .inv .2 ∙ key-done (args .key .now) (args .line .now) (c .before .loop .i) (c .loop-test .left) }
+    record {
+      within = c .before .loop .inv .1;
+      is = c .before .loop .inv .2
+          ∙ key-done (args .key .now) (args .line .now) (c .before .loop .i) (c .loop-test .left);
+    }
 
 pub key-end-spec : {M : Type 1} → statement M
 key-end-spec =

@@ -23,16 +23,21 @@ enum-told c = search needs
 returns : tie.Need-returns
 returns c =
     let args = c .before .before .before .before .before .args in
-    passing.line-missing (literal (args .text .now)) (rw (c .enum-told .given .1) at (c .before .before .line-end .ensures))
+    passing.line-missing (literal (args .text .now))
+    (rw (c .enum-told .given .1) at (c .before .before .line-end .ensures))
 
 sub-same-bytes : tie.Need-sub-same-bytes
 sub-same-bytes c = (rw (c .before .e .given .1) at (c .before .before .before .line-end .ensures)) .from
 
 part-same-bytes-start : tie.Need-part-same-bytes-start
-part-same-bytes-start c = let l = (rw (c .before .e .given .1) at (c .before .before .before .line-end .ensures)) in search (needs, l .from)
+part-same-bytes-start c =
+    let l = (rw (c .before .e .given .1) at (c .before .before .before .line-end .ensures)) in
+    search (needs, l .from)
 
 part-same-bytes-end : tie.Need-part-same-bytes-end
-part-same-bytes-end c = let l = (rw (c .before .e .given .1) at (c .before .before .before .line-end .ensures)) in search (needs, l .within)
+part-same-bytes-end c =
+    let l = (rw (c .before .e .given .1) at (c .before .before .before .line-end .ensures)) in
+    search (needs, l .within)
 
 same-bytes-requires : tie.Need-same-bytes-requires
 same-bytes-requires c κs = search needs
@@ -43,7 +48,13 @@ returns-2 c =
     let line-end = c .before .before .before .before .before .before .line-end in
     let e = c .before .before .before .before .e in
     let l = rw (e .given .1) at (line-end .ensures) in
-    record { within = l .within; feed = l .feed; passes = passing.line-passes (literal (args .text .now)) (between (args .file .now) (args .at) (e .given .0 .0)) (linesOf (drop (e .given .0 .0 + 1) (args .file .now))) (l .splits) (ap (literal (args .text .now)) (said-yes (c .before .same-bytes .ensures) (c .if1 .taken)) ∙ passing.literal-same (args .text .now)) }
+    record {
+      within = l .within;
+      feed = l .feed;
+      passes = passing.line-passes (literal (args .text .now)) (between (args .file .now) (args .at) (e .given .0 .0))
+          (linesOf (drop (e .given .0 .0 + 1) (args .file .now))) (l .splits) (ap (literal (args .text .now))
+          (said-yes (c .before .same-bytes .ensures) (c .if1 .taken)) ∙ passing.literal-same (args .text .now));
+    }
 
 returns-3 : tie.Need-returns-3
 returns-3 c =
@@ -51,7 +62,10 @@ returns-3 c =
     let line-end = c .before .before .before .before .before .before .line-end in
     let e = c .before .before .before .before .e in
     let l = rw (e .given .1) at (line-end .ensures) in
-    passing.line-stops (literal (args .text .now)) (between (args .file .now) (args .at) (e .given .0 .0)) (linesOf (drop (e .given .0 .0 + 1) (args .file .now))) (l .splits) (passing.literal-other (args .text .now) (between (args .file .now) (args .at) (e .given .0 .0)) (said-no (c .before .same-bytes .ensures) (c .if1 .left)))
+    passing.line-stops (literal (args .text .now)) (between (args .file .now) (args .at) (e .given .0 .0))
+    (linesOf (drop (e .given .0 .0 + 1) (args .file .now))) (l .splits)
+    (passing.literal-other (args .text .now) (between (args .file .now) (args .at) (e .given .0 .0))
+    (said-no (c .before .same-bytes .ensures) (c .if1 .left)))
 
 pub literal-line-spec : {M : Type 1} → statement M
 literal-line-spec =

@@ -32,9 +32,11 @@ same-length c = search needs
 
 returns : tie.Need-returns
 returns c =
-    let args = c .before .before .before .before .before .before .before .before .before .before .before .before .args in
-    let read-table = c .before .before .before .before .before .read-table in
-    rw (c .line-of .ensures ∙ ap lineOf (c .before .enum-told .given .1)) (back-no-rows (args .file .now) (args .line) (linesOf (drop (args .at) (args .file .now))) (rw (c .before .enum-told .given .1) at (read-table .ensures)))
+    let d = c .before .before .before .before .before in
+    let args = d .before .before .before .before .before .before .before .args in
+    let read-table = d .read-table in
+    rw (c .line-of .ensures ∙ ap lineOf (c .before .enum-told .given .1)) (back-no-rows (args .file .now) (args .line)
+    (linesOf (drop (args .at) (args .file .now))) (rw (c .before .enum-told .given .1) at (read-table .ensures)))
 
 slice-aggregate-read-table-3 : tie.Need-slice-aggregate-read-table-3
 slice-aggregate-read-table-3 c = search needs
@@ -66,17 +68,21 @@ same-length-3 c = search needs
 
 returns-2 : tie.Need-returns-2
 returns-2 c =
-    let args = c .before .before .before .before .before .before .before .before .before .before .before .before .before .before .before .before .before .before .before .before .before .args in
-    let read-table = c .before .before .before .before .before .before .before .before .before .before .before .before .before .before .read-table in
-    let rows = c .before .before .before .before .before .before .before .before .before .before .rows in
+    let d = c .before .before .before .before .before .before .before .before .before .before in
+    let args = d .before .before .before .before .before .before .before .before .before .before .before .args in
+    let read-table = d .before .before .before .before .read-table in
+    let rows = d .rows in
     let read-table2 = c .before .before .before .before .before .read-table2 in
-    rw (c .line-of2 .ensures ∙ ap lineOf (c .before .enum-told2 .given .1)) (back-no-nodes (args .file .now) (args .line) (linesOf (drop (args .at) (args .file .now))) (rw (rows .given .1) at (read-table .ensures)) (rw (c .before .enum-told2 .given .1) at (read-table2 .ensures)))
+    rw (c .line-of2 .ensures ∙ ap lineOf (c .before .enum-told2 .given .1))
+    (back-no-nodes (args .file .now) (args .line) (linesOf (drop (args .at) (args .file .now)))
+    (rw (rows .given .1) at (read-table .ensures)) (rw (c .before .enum-told2 .given .1) at (read-table2 .ensures)))
 
 end-line-requires : tie.Need-end-line-requires
 end-line-requires c κs =
-    let pre = c .before .before .before .before .before .before .before .before .before .before .before .before .before .before .before .before .before .before .before .before .before .pre in
-    let read-table = c .before .before .before .before .before .before .before .before .before .before .before .before .before .before .read-table in
-    let rows = c .before .before .before .before .before .before .before .before .before .before .rows in
+    let d = c .before .before .before .before .before .before .before .before .before .before in
+    let pre = d .before .before .before .before .before .before .before .before .before .before .before .pre in
+    let read-table = d .before .before .before .before .read-table in
+    let rows = d .rows in
     let read-table2 = c .before .before .before .before .before .read-table2 in
     let r = rw (rows .given .1) at (read-table .ensures) in
     let n = rw (c .before .nodes .given .1) at (read-table2 .ensures) in
@@ -96,12 +102,16 @@ same-length-5 c = search needs
 
 returns-3 : tie.Need-returns-3
 returns-3 c =
-    let args = c .before .before .before .before .before .before .before .before .before .before .before .before .before .before .before .before .before .before .before .before .before .before .before .before .before .args in
-    let read-table = c .before .before .before .before .before .before .before .before .before .before .before .before .before .before .before .before .before .before .read-table in
-    let rows = c .before .before .before .before .before .before .before .before .before .before .before .before .before .before .rows in
-    let read-table2 = c .before .before .before .before .before .before .before .before .before .read-table2 in
-    let nodes = c .before .before .before .before .before .nodes in
-    back-no-end (args .file .now) (args .line) (linesOf (drop (args .at) (args .file .now))) (rw (rows .given .1) at (read-table .ensures)) (rw (nodes .given .1) at (read-table2 .ensures)) (rw (c .before .last .given .1) at (c .before .before .before .end-line .ensures))
+    let c₁ = c .before .before .before .before .before in
+    let c₂ = c₁ .before .before .before .before .before .before .before .before .before in
+    let args = c₂ .before .before .before .before .before .before .before .before .before .before .before .args in
+    let read-table = c₂ .before .before .before .before .read-table in
+    let rows = c₂ .rows in
+    let read-table2 = c₁ .before .before .before .before .read-table2 in
+    let nodes = c₁ .nodes in
+    back-no-end (args .file .now) (args .line) (linesOf (drop (args .at) (args .file .now)))
+    (rw (rows .given .1) at (read-table .ensures)) (rw (nodes .given .1) at (read-table2 .ensures))
+    (rw (c .before .last .given .1) at (c .before .before .before .end-line .ensures))
 
 same-length-6 : tie.Need-same-length-6
 same-length-6 c = search needs
@@ -111,12 +121,15 @@ same-length-7 c = search needs
 
 returns-4 : tie.Need-returns-4
 returns-4 c =
-    let args = c .before .before .before .before .before .before .before .before .before .before .before .before .before .before .before .before .before .before .before .before .before .before .before .before .args in
-    let read-table = c .before .before .before .before .before .before .before .before .before .before .before .before .before .before .before .before .before .read-table in
-    let rows = c .before .before .before .before .before .before .before .before .before .before .before .before .before .rows in
+    let d = c .before .before .before .before .before .before .before .before .before .before .before .before .before in
+    let args = d .before .before .before .before .before .before .before .before .before .before .before .args in
+    let read-table = d .before .before .before .before .read-table in
+    let rows = d .rows in
     let read-table2 = c .before .before .before .before .before .before .before .before .read-table2 in
     let nodes = c .before .before .before .before .nodes in
-    back-done (args .file .now) (args .line) (linesOf (drop (args .at) (args .file .now))) (rw (rows .given .1) at (read-table .ensures)) (rw (nodes .given .1) at (read-table2 .ensures)) (rw (c .enum-told3 .given .1) at (c .before .before .end-line .ensures))
+    back-done (args .file .now) (args .line) (linesOf (drop (args .at) (args .file .now)))
+    (rw (rows .given .1) at (read-table .ensures)) (rw (nodes .given .1) at (read-table2 .ensures))
+    (rw (c .enum-told3 .given .1) at (c .before .before .end-line .ensures))
 
 pub read-back-spec : {M : Type 1} → statement M
 read-back-spec =

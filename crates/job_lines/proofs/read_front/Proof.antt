@@ -21,7 +21,9 @@ returns : tie.Need-returns
 returns c = let s = (rw (c .enum-told .given .1) at (c .before .before .literal-line .ensures)) in λ next. s .on 1 _
 
 add-count-line : tie.Need-add-count-line
-add-count-line c = let l = (rw (c .before .e .given .1) at (c .before .before .before .literal-line .ensures)) in omega (arith, l .within)
+add-count-line c =
+    let l = (rw (c .before .e .given .1) at (c .before .before .before .literal-line .ensures)) in
+    omega (arith, l .within)
 
 slice-aggregate-count-line : tie.Need-slice-aggregate-count-line
 slice-aggregate-count-line c = search needs
@@ -65,10 +67,11 @@ same-length-2 c = search needs
 
 returns-3 : tie.Need-returns-3
 returns-3 c =
-    let literal-line = c .before .before .before .before .before .before .before .before .before .before .before .before .before .before .before .before .before .before .literal-line in
-    let e = c .before .before .before .before .before .before .before .before .before .before .before .before .before .before .before .before .e in
-    let count-line = c .before .before .before .before .before .before .before .before .before .before .before .before .before .count-line in
-    let counted-lines = c .before .before .before .before .before .before .before .before .before .before .before .count in
+    let d = c .before .before .before .before .before .before .before .before .before .before .before in
+    let literal-line = d .before .before .before .before .before .before .before .literal-line in
+    let e = d .before .before .before .before .before .e in
+    let count-line = d .before .before .count-line in
+    let counted-lines = d .count in
     let read-strings = c .before .before .before .before .before .before .before .read-strings in
     let l = rw (e .given .1) at (literal-line .ensures) in
     let n = rw (counted-lines .given .1) at (count-line .ensures) in
@@ -82,10 +85,11 @@ same-length-4 c = search needs
 
 returns-4 : tie.Need-returns-4
 returns-4 c =
-    let literal-line = c .before .before .before .before .before .before .before .before .before .before .before .before .before .before .before .before .before .before .literal-line in
-    let e = c .before .before .before .before .before .before .before .before .before .before .before .before .before .before .before .before .e in
-    let count-line = c .before .before .before .before .before .before .before .before .before .before .before .before .before .count-line in
-    let counted-lines = c .before .before .before .before .before .before .before .before .before .before .before .count in
+    let d = c .before .before .before .before .before .before .before .before .before .before .before in
+    let literal-line = d .before .before .before .before .before .before .before .literal-line in
+    let e = d .before .before .before .before .before .e in
+    let count-line = d .before .before .count-line in
+    let counted-lines = d .count in
     let read-strings = c .before .before .before .before .before .before .before .read-strings in
     let l = rw (e .given .1) at (literal-line .ensures) in
     let n = rw (counted-lines .given .1) at (count-line .ensures) in

@@ -20,9 +20,10 @@ enum-known-at c = search needs
 
 read-back-requires : tie.Need-read-back-requires
 read-back-requires c κs =
-    let read-front = c .before .before .before .before .before .before .before .before .before .read-front in
+    let d = c .before .before .before .before .before .before .before .before .before in
+    let read-front = d .read-front in
     let f = rw (c .before .before .before .at .given .1) at (read-front .ensures) in
-    (c .before .before .before .before .before .before .before .before .before .before .before .before .if1 .left, f .below)
+    (d .before .before .before .if1 .left, f .below)
 
 enum-known-line-2 : tie.Need-enum-known-line-2
 enum-known-line-2 c = search needs
@@ -38,9 +39,10 @@ same-length-2 c = search needs
 
 returns-2 : tie.Need-returns-2
 returns-2 c =
-    let args = c .before .before .before .before .before .before .before .before .before .before .before .before .before .before .before .before .args in
-    let if1 = c .before .before .before .before .before .before .before .before .before .before .if1 in
-    let read-front = c .before .before .before .before .before .before .before .read-front in
+    let d = c .before .before .before .before .before .before .before in
+    let args = d .before .before .before .before .before .before .before .before .before .args in
+    let if1 = d .before .before .before .if1 in
+    let read-front = d .read-front in
     no-front (args .file .now) (if1 .left) (rw (c .before .line .given .1) at (read-front .ensures))
 
 same-length-3 : tie.Need-same-length-3
@@ -57,12 +59,15 @@ same-length-6 c = search needs
 
 returns-3 : tie.Need-returns-3
 returns-3 c =
-    let args = c .before .before .before .before .before .before .before .before .before .before .before .before .before .before .before .before .before .before .before .before .before .before .before .before .before .before .args in
-    let if1 = c .before .before .before .before .before .before .before .before .before .before .before .before .before .before .before .before .before .before .before .before .if1 in
-    let read-front = c .before .before .before .before .before .before .before .before .before .before .before .before .before .before .before .before .before .read-front in
-    let at = c .before .before .before .before .before .before .before .before .before .before .before .at in
-    let read-back = c .before .before .before .before .before .before .before .read-back in
-    no-back (args .file .now) (if1 .left) (rw (at .given .1) at (read-front .ensures)) (rw (c .before .line2 .given .1) at (read-back .ensures))
+    let c₁ = c .before .before .before .before .before .before .before in
+    let c₂ = c₁ .before .before .before .before .before .before .before .before .before .before in
+    let args = c₂ .before .before .before .before .before .before .before .before .before .args in
+    let if1 = c₂ .before .before .before .if1 in
+    let read-front = c₂ .read-front in
+    let at = c₁ .before .before .before .before .at in
+    let read-back = c₁ .read-back in
+    no-back (args .file .now) (if1 .left) (rw (at .given .1) at (read-front .ensures))
+    (rw (c .before .line2 .given .1) at (read-back .ensures))
 
 same-length-7 : tie.Need-same-length-7
 same-length-7 c = search needs
@@ -78,12 +83,15 @@ same-length-10 c = search needs
 
 returns-4 : tie.Need-returns-4
 returns-4 c =
-    let args = c .before .before .before .before .before .before .before .before .before .before .before .before .before .before .before .before .before .before .before .before .before .before .before .before .before .before .args in
-    let if1 = c .before .before .before .before .before .before .before .before .before .before .before .before .before .before .before .before .before .before .before .before .if1 in
-    let read-front = c .before .before .before .before .before .before .before .before .before .before .before .before .before .before .before .before .before .read-front in
-    let at = c .before .before .before .before .before .before .before .before .before .before .before .at in
-    let read-back = c .before .before .before .before .before .before .before .read-back in
-    lines-done (args .file .now) (if1 .left) (rw (at .given .1) at (read-front .ensures)) (rw (c .before .r .given .1) at (read-back .ensures))
+    let c₁ = c .before .before .before .before .before .before .before in
+    let c₂ = c₁ .before .before .before .before .before .before .before .before .before .before in
+    let args = c₂ .before .before .before .before .before .before .before .before .before .args in
+    let if1 = c₂ .before .before .before .if1 in
+    let read-front = c₂ .read-front in
+    let at = c₁ .before .before .before .before .at in
+    let read-back = c₁ .read-back in
+    lines-done (args .file .now) (if1 .left) (rw (at .given .1) at (read-front .ensures))
+    (rw (c .before .r .given .1) at (read-back .ensures))
 
 pub read-lines-spec : {M : Type 1} → statement M
 read-lines-spec =

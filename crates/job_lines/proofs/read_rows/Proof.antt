@@ -5,12 +5,14 @@ use lib.ListN.{drop}
 use borrow.Author.Needs.{needs}
 use Rattle.job.specs.Lines.{linesOf}
 use Rattle.job_lines.proofs.Split.{line-short}
-use Rattle.job_lines.proofs.Progress.{RowsRead, out-length, rows-none, rows-missing, rows-stop, rows-more, rows-done}
+use Rattle.job_lines.proofs.Progress.{RowsRead, out-length, rows-none, rows-missing}
+use Rattle.job_lines.proofs.Progress.{rows-stop, rows-more, rows-done}
 use Rattle.job_lines.proofs.read_rows.Statement.{statement}
 use Rattle.job_lines.proofs.read_rows.Tie as tie
 
 abbrev Inv-loop : tie.InvT-loop
-Inv-loop file at line count key width out₀ start₀ used₀ k₀ out start used k = (k ≤ count) × RowsRead key width count line (linesOf (drop at file)) file out₀ out start k used
+Inv-loop file at line count key width out₀ start₀ used₀ k₀ out start used k =
+    (k ≤ count) × RowsRead key width count line (linesOf (drop at file)) file out₀ out start k used
 
 abbrev μ-loop : tie.MeasureT-loop
 μ-loop file at line count key width out₀ start₀ used₀ k₀ out start used k = count - k
@@ -38,16 +40,21 @@ same-length c =
 returns : tie.Need-returns Inv-loop μ-loop
 returns c =
     let loop = c .before .before .before .before .loop in
-    rows-missing (loop .inv .1) (c .before .before .before .loop-test .taken) (rw (c .enum-told .given .1) at (c .before .before .line-end .ensures))
+    rows-missing (loop .inv .1) (c .before .before .before .loop-test .taken)
+    (rw (c .enum-told .given .1) at (c .before .before .line-end .ensures))
 
 sub-row-line : tie.Need-sub-row-line Inv-loop μ-loop
 sub-row-line c = (rw (c .before .e .given .1) at (c .before .before .before .line-end .ensures)) .from
 
 part-row-line-start : tie.Need-part-row-line-start Inv-loop μ-loop
-part-row-line-start c = let l = (rw (c .before .e .given .1) at (c .before .before .before .line-end .ensures)) in search (needs, l .from)
+part-row-line-start c =
+    let l = (rw (c .before .e .given .1) at (c .before .before .before .line-end .ensures)) in
+    search (needs, l .from)
 
 part-row-line-end : tie.Need-part-row-line-end Inv-loop μ-loop
-part-row-line-end c = let l = (rw (c .before .e .given .1) at (c .before .before .before .line-end .ensures)) in search (needs, l .within)
+part-row-line-end c =
+    let l = (rw (c .before .e .given .1) at (c .before .before .before .line-end .ensures)) in
+    search (needs, l .within)
 
 row-line-requires : tie.Need-row-line-requires Inv-loop μ-loop
 row-line-requires c κs =
@@ -67,22 +74,26 @@ add-t23 c = omega arith
 
 same-length-2 : tie.Need-same-length-2 Inv-loop μ-loop
 same-length-2 c =
-    let loop = c .before .before .before .before .before .before .before .before .before .before .before .before .loop in
+    let loop =
+    c .before .before .before .before .before .before .before .before .before .before .before .before .loop in
     search (needs, out-length (loop .inv .1))
 
 returns-2 : tie.Need-returns-2 Inv-loop μ-loop
 returns-2 c =
-    let loop = c .before .before .before .before .before .before .before .before .before .before .before .before .loop in
-    let loop-test = c .before .before .before .before .before .before .before .before .before .before .before .loop-test in
-    let line-end = c .before .before .before .before .before .before .before .before .before .before .line-end in
-    let e = c .before .before .before .before .before .before .before .before .e in
+    let d = c .before .before .before .before .before .before .before .before in
+    let loop = d .before .before .before .before .loop in
+    let loop-test = d .before .before .before .loop-test in
+    let line-end = d .before .before .line-end in
+    let e = d .e in
     let row-line = c .before .before .before .before .row-line in
-    rows-stop (loop .inv .1) (loop-test .taken) (rw (e .given .1) at (line-end .ensures)) (rw (c .enum-told2 .given .1) at (row-line .ensures))
+    rows-stop (loop .inv .1) (loop-test .taken) (rw (e .given .1) at (line-end .ensures))
+    (rw (c .enum-told2 .given .1) at (row-line .ensures))
 
 add-start : tie.Need-add-start Inv-loop μ-loop
 add-start c =
-    let line-end = c .before .before .before .before .before .before .before .before .before .before .before .line-end in
-    let e = c .before .before .before .before .before .before .before .before .before .e in
+    let d = c .before .before .before .before .before .before .before .before .before in
+    let line-end = d .before .before .line-end in
+    let e = d .e in
     let l = rw (e .given .1) at (line-end .ensures) in
     omega (arith, l .within)
 
@@ -94,12 +105,16 @@ loop-less c = omega arith
 
 loop-again : tie.Need-loop-again Inv-loop μ-loop
 loop-again c =
-    let loop = c .before .before .before .before .before .before .before .before .before .before .before .before .before .loop in
-    let loop-test = c .before .before .before .before .before .before .before .before .before .before .before .before .loop-test in
-    let line-end = c .before .before .before .before .before .before .before .before .before .before .before .line-end in
-    let e = c .before .before .before .before .before .before .before .before .before .e in
-    let row-line = c .before .before .before .before .before .row-line in
-    (omega arith, rows-more (loop .inv .1) (loop-test .taken) (rw (e .given .1) at (line-end .ensures)) (rw (c .before .to .given .1) at (row-line .ensures)) (omega arith))
+    let d = c .before .before .before .before .before .before .before .before .before in
+    let loop = d .before .before .before .before .loop in
+    let loop-test = d .before .before .before .loop-test in
+    let line-end = d .before .before .line-end in
+    let e = d .e in
+    let row-line = c .before .before .before .before .before .row-line in (
+      omega arith,
+      rows-more (loop .inv .1) (loop-test .taken) (rw (e .given .1) at (line-end .ensures))
+          (rw (c .before .to .given .1) at (row-line .ensures)) (omega arith),
+    )
 
 add-t24 : tie.Need-add-t24 Inv-loop μ-loop
 add-t24 c = omega arith

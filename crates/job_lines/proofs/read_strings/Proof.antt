@@ -5,13 +5,15 @@ use lib.ListN.{drop}
 use borrow.Author.Needs.{needs}
 use Rattle.job.specs.Lines.{linesOf}
 use Rattle.tables.specs.Place.{between}
-use Rattle.job_lines.proofs.Progress.{StringsRead, bytes-length, ends-length, strings-none, strings-missing, strings-stop, strings-more, strings-done}
+use Rattle.job_lines.proofs.Progress.{StringsRead, bytes-length, ends-length, strings-none}
+use Rattle.job_lines.proofs.Progress.{strings-missing, strings-stop, strings-more, strings-done}
 use Rattle.job_lines.proofs.Passing.{string-keeps}
 use Rattle.job_lines.proofs.read_strings.Statement.{statement}
 use Rattle.job_lines.proofs.read_strings.Tie as tie
 
 abbrev Inv-loop : tie.InvT-loop
-Inv-loop file at line count bytes₀ ends₀ start₀ used₀ k₀ bytes ends start used k = (k ≤ count) × StringsRead count line (linesOf (drop at file)) file bytes₀ ends₀ bytes ends start k used
+Inv-loop file at line count bytes₀ ends₀ start₀ used₀ k₀ bytes ends start used k =
+    (k ≤ count) × StringsRead count line (linesOf (drop at file)) file bytes₀ ends₀ bytes ends start k used
 
 abbrev μ-loop : tie.MeasureT-loop
 μ-loop file at line count bytes₀ ends₀ start₀ used₀ k₀ bytes ends start used k = count - k
@@ -44,7 +46,8 @@ same-length-2 c =
 returns : tie.Need-returns Inv-loop μ-loop
 returns c =
     let loop = c .before .before .before .before .loop in
-    strings-missing (loop .inv .1) (c .before .before .before .loop-test .taken) (rw (c .enum-told .given .1) at (c .before .before .line-end .ensures))
+    strings-missing (loop .inv .1) (c .before .before .before .loop-test .taken)
+    (rw (c .enum-told .given .1) at (c .before .before .line-end .ensures))
 
 sub-string-line : tie.Need-sub-string-line Inv-loop μ-loop
 sub-string-line c = (rw (c .before .e .given .1) at (c .before .before .before .line-end .ensures)) .from
@@ -75,31 +78,36 @@ add-t22 c = omega arith
 
 same-length-3 : tie.Need-same-length-3 Inv-loop μ-loop
 same-length-3 c =
-    let loop = c .before .before .before .before .before .before .before .before .before .before .before .before .loop in
+    let loop =
+    c .before .before .before .before .before .before .before .before .before .before .before .before .loop in
     search (needs, bytes-length (loop .inv .1))
 
 same-length-4 : tie.Need-same-length-4 Inv-loop μ-loop
 same-length-4 c =
-    let loop = c .before .before .before .before .before .before .before .before .before .before .before .before .loop in
+    let loop =
+    c .before .before .before .before .before .before .before .before .before .before .before .before .loop in
     search (needs, ends-length (loop .inv .1))
 
 returns-2 : tie.Need-returns-2 Inv-loop μ-loop
 returns-2 c =
-    let loop = c .before .before .before .before .before .before .before .before .before .before .before .before .loop in
-    let loop-test = c .before .before .before .before .before .before .before .before .before .before .before .loop-test in
-    let line-end = c .before .before .before .before .before .before .before .before .before .before .line-end in
-    let e = c .before .before .before .before .before .before .before .before .e in
+    let d = c .before .before .before .before .before .before .before .before in
+    let loop = d .before .before .before .before .loop in
+    let loop-test = d .before .before .before .loop-test in
+    let line-end = d .before .before .line-end in
+    let e = d .e in
     let string-line = c .before .before .before .before .string-line in
-    strings-stop (loop .inv .1) (loop-test .taken) (rw (e .given .1) at (line-end .ensures)) (rw (c .enum-told2 .given .1) at (string-line .ensures))
+    strings-stop (loop .inv .1) (loop-test .taken) (rw (e .given .1) at (line-end .ensures))
+    (rw (c .enum-told2 .given .1) at (string-line .ensures))
 
 cast-put-u32 : tie.Need-cast-put-u32 Inv-loop μ-loop
 cast-put-u32 c = omega arith
 
 cast-put-u32-2 : tie.Need-cast-put-u32-2 Inv-loop μ-loop
 cast-put-u32-2 c =
-    let args = c .before .before .before .before .before .before .before .before .before .before .before .before .before .before .before .before .before .before .args in
-    let loop = c .before .before .before .before .before .before .before .before .before .before .before .before .before .before .loop in
-    let e = c .before .before .before .before .before .before .before .before .before .before .e in
+    let d = c .before .before .before .before .before .before .before .before .before .before in
+    let args = d .before .before .before .before .before .before .before .before .args in
+    let loop = d .before .before .before .before .loop in
+    let e = d .e in
     let string-line = c .before .before .before .before .before .before .string-line in
     let r = rw (c .before .before .to .given .1) at (string-line .ensures) in
     omega (arith, r .ends, string-keeps (loop .used) (between (args .file .now) (loop .start) (e .given .0 .0)) (r .is))
@@ -109,8 +117,9 @@ put-u32-requires c κs = search needs
 
 add-start : tie.Need-add-start Inv-loop μ-loop
 add-start c =
-    let line-end = c .before .before .before .before .before .before .before .before .before .before .before .before .before .before .before .line-end in
-    let e = c .before .before .before .before .before .before .before .before .before .before .before .before .before .e in
+    let d = c .before .before .before .before .before .before .before .before .before .before .before .before .before in
+    let line-end = d .before .before .line-end in
+    let e = d .e in
     let l = rw (e .given .1) at (line-end .ensures) in
     omega (arith, l .within)
 
@@ -122,13 +131,18 @@ loop-less c = omega arith
 
 loop-again : tie.Need-loop-again Inv-loop μ-loop
 loop-again c =
-    let loop = c .before .before .before .before .before .before .before .before .before .before .before .before .before .before .before .before .before .loop in
-    let loop-test = c .before .before .before .before .before .before .before .before .before .before .before .before .before .before .before .before .loop-test in
-    let line-end = c .before .before .before .before .before .before .before .before .before .before .before .before .before .before .before .line-end in
-    let e = c .before .before .before .before .before .before .before .before .before .before .before .before .before .e in
-    let string-line = c .before .before .before .before .before .before .before .before .before .string-line in
-    let to = c .before .before .before .before .before .to in
-    (omega arith, strings-more (loop .inv .1) (loop-test .taken) (rw (e .given .1) at (line-end .ensures)) (rw (to .given .1) at (string-line .ensures)) (c .before .before .put-u32 .ensures))
+    let c₁ = c .before .before .before .before .before in
+    let c₂ = c₁ .before .before .before .before .before .before .before .before in
+    let loop = c₂ .before .before .before .before .loop in
+    let loop-test = c₂ .before .before .before .loop-test in
+    let line-end = c₂ .before .before .line-end in
+    let e = c₂ .e in
+    let string-line = c₁ .before .before .before .before .string-line in
+    let to = c₁ .to in (
+      omega arith,
+      strings-more (loop .inv .1) (loop-test .taken) (rw (e .given .1) at (line-end .ensures))
+          (rw (to .given .1) at (string-line .ensures)) (c .before .before .put-u32 .ensures),
+    )
 
 add-t27 : tie.Need-add-t27 Inv-loop μ-loop
 add-t27 c = omega arith

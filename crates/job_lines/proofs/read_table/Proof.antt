@@ -34,12 +34,14 @@ same-length c = search needs
 
 returns-2 : tie.Need-returns-2
 returns-2 c =
-    let args = c .before .before .before .before .before .before .before .before .before .before .before .before .args in
-    let count-line = c .before .before .before .before .before .before .before .count-line in
-    let rows = c .before .before .before .before .before .rows in
+    let d = c .before .before .before .before .before in
+    let args = d .before .before .before .before .before .before .before .args in
+    let count-line = d .before .before .count-line in
+    let rows = d .rows in
     let read-rows = c .before .before .read-rows in
     let n = rw (rows .given .1) at (count-line .ensures) in
-    table-section (args .counted .now) (args .limit) (n .passes) (args .line) (args .key .now) (args .width) (args .file .now) (args .out .now) _ (n .keeps) (read-rows .result) (read-rows .ensures)
+    table-section (args .counted .now) (args .limit) (n .passes) (args .line) (args .key .now) (args .width)
+    (args .file .now) (args .out .now) _ (n .keeps) (read-rows .result) (read-rows .ensures)
 
 pub read-table-spec : {M : Type 1} → statement M
 read-table-spec =

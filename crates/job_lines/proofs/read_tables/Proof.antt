@@ -32,11 +32,16 @@ same-length-4 c = search needs
 
 returns : tie.Need-returns
 returns c =
-    let args = c .before .before .before .before .before .before .before .before .before .before .before .before .before .before .before .before .before .before .before .before .before .before .before .before .before .before .before .before .before .before .before .before .before .args in
+    let c₁ = c .before .before .before .before .before .before .before .before .before .before in
+    let c₂ =
+    c₁ .before .before .before .before .before .before .before .before .before .before .before .before .before in
+    let args = c₂ .before .before .before .before .before .before .before .before .before .before .args in
     let room = roomOf (args .bytes .now) (args .ends .now) (args .schema .now) (args .instance .now) in
-    let zero-outputs = c .before .before .before .before .before .before .before .before .before .before .before .before .before .before .before .before .before .before .before .before .before .before .before .zero-outputs in
-    let read-lines = c .before .before .before .before .before .before .before .before .before .before .read-lines in
-    let p = as-held {room = room} (zero-outputs .ensures) (args .file .now) (read-lines .last .1 .0) (read-lines .last .1 .1 .0) (read-lines .last .1 .1 .1 .0) (read-lines .last .1 .1 .1 .1 .0) (read-lines .ensures) (c .enum-told .given .1) in
+    let zero-outputs = c₂ .zero-outputs in
+    let read-lines = c₁ .read-lines in
+    let p = as-held {room = room} (zero-outputs .ensures) (args .file .now)
+    (read-lines .last .1 .0) (read-lines .last .1 .1 .0) (read-lines .last .1 .1 .1 .0)
+    (read-lines .last .1 .1 .1 .1 .0) (read-lines .ensures) (c .enum-told .given .1) in
     (p .answer, p .outputs)
 
 zero-outputs-requires-2 : tie.Need-zero-outputs-requires-2
@@ -56,14 +61,23 @@ same-length-8 c = search needs
 
 returns-2 : tie.Need-returns-2
 returns-2 c =
-    let args = c .before .before .before .before .before .before .before .before .before .before .before .before .before .before .before .before .before .before .before .before .before .before .before .before .before .before .before .before .before .before .before .before .before .before .before .before .before .before .before .before .before .before .before .before .before .before .before .args in
+    let c₁ = c .before .before .before .before .before .before .before .before in
+    let c₂ = c₁ .before .before .before .before .before .before in
+    let c₃ = c₂ .before .before .before .before .before .before .before .before .before .before in
+    let c₄ =
+    c₃ .before .before .before .before .before .before .before .before .before .before .before .before .before in
+    let args = c₄ .before .before .before .before .before .before .before .before .before .before .args in
     let room = roomOf (args .bytes .now) (args .ends .now) (args .schema .now) (args .instance .now) in
-    let zero-outputs = c .before .before .before .before .before .before .before .before .before .before .before .before .before .before .before .before .before .before .before .before .before .before .before .before .before .before .before .before .before .before .before .before .before .before .before .before .before .zero-outputs in
-    let read-lines = c .before .before .before .before .before .before .before .before .before .before .before .before .before .before .before .before .before .before .before .before .before .before .before .before .read-lines in
-    let held = c .before .before .before .before .before .before .before .before .before .before .before .before .before .before .held in
-    let zero-outputs2 = c .before .before .before .before .before .before .before .before .zero-outputs2 in
-    let again = in-room {other = room} (zero-outputs2 .ensures) (read-lines .kept .1 .0 ∙ zero-outputs .kept .0) (read-lines .kept .1 .1 .0 ∙ zero-outputs .kept .1 .0) (read-lines .kept .1 .1 .1 .0 ∙ zero-outputs .kept .1 .1 .0) (read-lines .kept .1 .1 .1 .1 .0 ∙ zero-outputs .kept .1 .1 .1 .0) in
-    let p = as-wrong {room = room} (zero-outputs .ensures) (args .file .now) (read-lines .last .1 .0) (read-lines .last .1 .1 .0) (read-lines .last .1 .1 .1 .0) (read-lines .last .1 .1 .1 .1 .0) (read-lines .ensures) (held .given .1) again in
+    let zero-outputs = c₄ .zero-outputs in
+    let read-lines = c₃ .read-lines in
+    let held = c₂ .held in
+    let zero-outputs2 = c₁ .zero-outputs2 in
+    let again = in-room {other = room} (zero-outputs2 .ensures) (read-lines .kept .1 .0 ∙ zero-outputs .kept .0)
+    (read-lines .kept .1 .1 .0 ∙ zero-outputs .kept .1 .0) (read-lines .kept .1 .1 .1 .0
+    ∙ zero-outputs .kept .1 .1 .0) (read-lines .kept .1 .1 .1 .1 .0 ∙ zero-outputs .kept .1 .1 .1 .0) in
+    let p = as-wrong {room = room} (zero-outputs .ensures) (args .file .now)
+    (read-lines .last .1 .0) (read-lines .last .1 .1 .0) (read-lines .last .1 .1 .1 .0)
+    (read-lines .last .1 .1 .1 .1 .0) (read-lines .ensures) (held .given .1) again in
     (p .answer, p .outputs)
 
 pub read-tables-spec : {M : Type 1} → statement M

@@ -22,13 +22,16 @@ enum-told c = search needs
 returns : tie.Need-returns
 returns c =
     let args = c .before .before .before .before .before .before .args in
-    passing.row-no-key (args .key .now) (args .width) (args .line .now) (rw (c .enum-told .given .1) at (c .before .before .key-end .ensures))
+    passing.row-no-key (args .key .now) (args .width) (args .line .now)
+    (rw (c .enum-told .given .1) at (c .before .before .key-end .ensures))
 
 sub-words : tie.Need-sub-words
 sub-words c = (rw (c .before .p .given .1) at (c .before .before .before .key-end .ensures)) .within
 
 part-words-start : tie.Need-part-words-start
-part-words-start c = let k = (rw (c .before .p .given .1) at (c .before .before .before .key-end .ensures)) in search (needs, k .within)
+part-words-start c =
+    let k = (rw (c .before .p .given .1) at (c .before .before .before .key-end .ensures)) in
+    search (needs, k .within)
 
 part-words-end : tie.Need-part-words-end
 part-words-end c = search needs
@@ -41,12 +44,14 @@ same-length c = search needs
 
 returns-2 : tie.Need-returns-2
 returns-2 c =
-    let args = c .before .before .before .before .before .before .before .before .before .before .before .before .args in
-    let key-end = c .before .before .before .before .before .before .before .before .key-end in
-    let p = c .before .before .before .before .before .before .p in
+    let d = c .before .before .before .before .before .before in
+    let args = d .before .before .before .before .before .before .args in
+    let key-end = d .before .before .key-end in
+    let p = d .p in
     let words = c .before .before .words in
     let k = rw (p .given .1) at (key-end .ensures) in
-    subst⁻¹ (λ (o : Option (List ℕ)). Stores o (args .out .now) (args .from) (words .last .1 .1 .0) (words .result)) (passing.row-is (args .key .now) (args .width) (args .line .now) (key-rest k)) (words .ensures)
+    subst⁻¹ (λ (o : Option (List ℕ)). Stores o (args .out .now) (args .from) (words .last .1 .1 .0) (words .result))
+    (passing.row-is (args .key .now) (args .width) (args .line .now) (key-rest k)) (words .ensures)
 
 pub row-line-spec : {M : Type 1} → statement M
 row-line-spec =

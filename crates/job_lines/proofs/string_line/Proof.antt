@@ -21,13 +21,16 @@ enum-told c = search needs
 returns : tie.Need-returns
 returns c =
     let args = c .before .before .before .before .before .before .args in
-    passing.string-no-key (args .from) (args .line .now) (rw (c .enum-told .given .1) at (c .before .before .key-end .ensures))
+    passing.string-no-key (args .from) (args .line .now)
+    (rw (c .enum-told .given .1) at (c .before .before .key-end .ensures))
 
 sub-hex-bytes : tie.Need-sub-hex-bytes
 sub-hex-bytes c = (rw (c .before .p .given .1) at (c .before .before .before .key-end .ensures)) .within
 
 part-hex-bytes-start : tie.Need-part-hex-bytes-start
-part-hex-bytes-start c = let k = (rw (c .before .p .given .1) at (c .before .before .before .key-end .ensures)) in search (needs, k .within)
+part-hex-bytes-start c =
+    let k = (rw (c .before .p .given .1) at (c .before .before .before .key-end .ensures)) in
+    search (needs, k .within)
 
 part-hex-bytes-end : tie.Need-part-hex-bytes-end
 part-hex-bytes-end c = search needs
@@ -46,21 +49,24 @@ same-length c = search needs
 
 returns-2 : tie.Need-returns-2
 returns-2 c =
-    let args = c .before .before .before .before .before .before .before .before .before .before .before .before .before .before .args in
-    let key-end = c .before .before .before .before .before .before .before .before .before .before .key-end in
-    let p = c .before .before .before .before .before .before .before .before .p in
+    let d = c .before .before .before .before .before .before .before .before in
+    let args = d .before .before .before .before .before .before .args in
+    let key-end = d .before .before .key-end in
+    let p = d .p in
     let hex-bytes = c .before .before .before .before .hex-bytes in
     let k = rw (p .given .1) at (key-end .ensures) in
-    passing.string-no-bytes (args .from) (args .line .now) (key-rest k) (rw (c .enum-told2 .given .1) at (hex-bytes .ensures))
+    passing.string-no-bytes (args .from) (args .line .now) (key-rest k)
+    (rw (c .enum-told2 .given .1) at (hex-bytes .ensures))
 
 same-length-2 : tie.Need-same-length-2
 same-length-2 c = search needs
 
 returns-3 : tie.Need-returns-3
 returns-3 c =
-    let args = c .before .before .before .before .before .before .before .before .before .before .before .before .before .before .before .before .args in
-    let key-end = c .before .before .before .before .before .before .before .before .before .before .before .before .key-end in
-    let p = c .before .before .before .before .before .before .before .before .before .before .p in
+    let d = c .before .before .before .before .before .before .before .before .before .before in
+    let args = d .before .before .before .before .before .before .args in
+    let key-end = d .before .before .key-end in
+    let p = d .p in
     let hex-bytes = c .before .before .before .before .before .before .hex-bytes in
     let k = rw (p .given .1) at (key-end .ensures) in
     let s = rw (c .before .before .to .given .1) at (hex-bytes .ensures) in
@@ -71,13 +77,19 @@ same-length-3 c = search needs
 
 returns-4 : tie.Need-returns-4
 returns-4 c =
-    let args = c .before .before .before .before .before .before .before .before .before .before .before .before .before .before .before .before .args in
-    let key-end = c .before .before .before .before .before .before .before .before .before .before .before .before .key-end in
-    let p = c .before .before .before .before .before .before .before .before .before .before .p in
+    let d = c .before .before .before .before .before .before .before .before .before .before in
+    let args = d .before .before .before .before .before .before .args in
+    let key-end = d .before .before .key-end in
+    let p = d .p in
     let hex-bytes = c .before .before .before .before .before .before .hex-bytes in
     let k = rw (p .given .1) at (key-end .ensures) in
     let s = rw (c .before .before .to .given .1) at (hex-bytes .ensures) in
-    record { run = s .run; is = passing.string-is (args .from) (args .line .now) (key-rest k) (s .is) (omega (arith, s .ends)); stored = s .stored; ends = s .ends }
+    record {
+      run = s .run;
+      is = passing.string-is (args .from) (args .line .now) (key-rest k) (s .is) (omega (arith, s .ends));
+      stored = s .stored;
+      ends = s .ends;
+    }
 
 pub string-line-spec : {M : Type 1} → statement M
 string-line-spec =

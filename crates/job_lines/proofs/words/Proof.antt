@@ -9,13 +9,16 @@ use Rattle.job.specs.Reading.{wordsOf}
 use Rattle.tables.specs.Place.{between}
 use Rattle.job_lines.specs.Parts.{fieldsFrom}
 use Rattle.job_numbers.proofs.Digits.{value-is, no-value}
-use Rattle.job_lines.proofs.Stored.{Storing, storing-none, storing-more, storing-fails, storing-done, storing-size}
+use Rattle.job_lines.proofs.Stored.{Storing, storing-none, storing-more}
+use Rattle.job_lines.proofs.Stored.{storing-fails, storing-done, storing-size}
 use Rattle.job_lines.proofs.Fields.{fields-all, words-left, words-end, words-missing, words-wrong, words-more}
 use Rattle.job_lines.proofs.words.Statement.{statement}
 use Rattle.job_lines.proofs.words.Tie as tie
 
 abbrev Inv-loop : tie.InvT-loop
-Inv-loop text width out₀ from to₀ left₀ start₀ out to left start = (to + left ≡ from + width) × Storing (wordsOf width (fieldsOf text)) out₀ from out to (wordsOf left (fieldsFrom text start))
+Inv-loop text width out₀ from to₀ left₀ start₀ out to left start =
+    (to + left ≡ from + width)
+    × Storing (wordsOf width (fieldsOf text)) out₀ from out to (wordsOf left (fieldsFrom text start))
 
 abbrev μ-loop : tie.MeasureT-loop
 μ-loop text width out₀ from to₀ left₀ start₀ out to left start = left
@@ -32,7 +35,8 @@ returns : tie.Need-returns Inv-loop μ-loop
 returns c =
     let args = c .before .before .before .before .before .args in
     let loop = c .before .before .loop in
-    storing-fails (loop .inv .1) (words-missing (args .text .now) (loop .start) (loop .left) (c .before .loop-test .taken) (c .if1 .taken))
+    storing-fails (loop .inv .1)
+    (words-missing (args .text .now) (loop .start) (loop .left) (c .before .loop-test .taken) (c .if1 .taken))
 
 field-end-requires : tie.Need-field-end-requires Inv-loop μ-loop
 field-end-requires c κs = search needs
@@ -66,7 +70,9 @@ returns-2 c =
     let loop = c .before .before .before .before .before .before .before .loop in
     let loop-test = c .before .before .before .before .before .before .loop-test in
     let field-end = c .before .before .before .before .field-end in
-    storing-fails (loop .inv .1) (words-wrong (field-end .ensures) (loop .left) (loop-test .taken) (no-value (wordOf (between (args .text .now) (loop .start) (field-end .result))) (sym (c .before .before .read-word .ensures) ∙ c .enum-told .given .1)))
+    storing-fails (loop .inv .1) (words-wrong (field-end .ensures) (loop .left) (loop-test .taken)
+    (no-value (wordOf (between (args .text .now) (loop .start) (field-end .result)))
+    (sym (c .before .before .read-word .ensures) ∙ c .enum-told .given .1)))
 
 put-u32-requires : tie.Need-put-u32-requires Inv-loop μ-loop
 put-u32-requires c κs = search needs
@@ -85,13 +91,18 @@ loop-less c = omega arith
 
 loop-again : tie.Need-loop-again Inv-loop μ-loop
 loop-again c =
-    let args = c .before .before .before .before .before .before .before .before .before .before .before .before .before .before .before .args in
-    let loop = c .before .before .before .before .before .before .before .before .before .before .before .before .loop in
-    let loop-test = c .before .before .before .before .before .before .before .before .before .before .before .loop-test in
-    let field-end = c .before .before .before .before .before .before .before .before .before .field-end in
-    let read-word = c .before .before .before .before .before .before .before .read-word in
-    let w = c .before .before .before .before .before .w in
-    (omega arith, storing-more (loop .inv .1) (w .given .0 .0) (words-more (field-end .ensures) (loop .left) (loop-test .taken) (value-is (wordOf (between (args .text .now) (loop .start) (field-end .result))) (sym (read-word .ensures) ∙ w .given .1))) (c .before .before .put-u32 .ensures))
+    let d = c .before .before .before .before .before .before .before in
+    let args = d .before .before .before .before .before .before .before .before .args in
+    let loop = d .before .before .before .before .before .loop in
+    let loop-test = d .before .before .before .before .loop-test in
+    let field-end = d .before .before .field-end in
+    let read-word = d .read-word in
+    let w = c .before .before .before .before .before .w in (
+      omega arith,
+      storing-more (loop .inv .1) (w .given .0 .0) (words-more (field-end .ensures) (loop .left)
+          (loop-test .taken) (value-is (wordOf (between (args .text .now) (loop .start) (field-end .result)))
+          (sym (read-word .ensures) ∙ w .given .1))) (c .before .before .put-u32 .ensures),
+    )
 
 same-length-3 : tie.Need-same-length-3 Inv-loop μ-loop
 same-length-3 c = storing-size (c .before .before .loop .inv .1)
@@ -100,7 +111,8 @@ returns-3 : tie.Need-returns-3 Inv-loop μ-loop
 returns-3 c =
     let args = c .before .before .before .before .before .args in
     let loop = c .before .before .loop in
-    storing-fails (loop .inv .1) (words-left (args .text .now) (loop .start) (loop .left) (c .before .loop-test .left) (c .if2 .taken))
+    storing-fails (loop .inv .1)
+    (words-left (args .text .now) (loop .start) (loop .left) (c .before .loop-test .left) (c .if2 .taken))
 
 same-length-4 : tie.Need-same-length-4 Inv-loop μ-loop
 same-length-4 c = storing-size (c .before .before .loop .inv .1)
@@ -109,7 +121,8 @@ returns-4 : tie.Need-returns-4 Inv-loop μ-loop
 returns-4 c =
     let args = c .before .before .before .before .before .args in
     let loop = c .before .before .loop in
-    storing-done (loop .inv .1) (words-end (args .text .now) (loop .start) (loop .left) (c .before .loop-test .left) (c .if2 .left))
+    storing-done (loop .inv .1)
+    (words-end (args .text .now) (loop .start) (loop .left) (c .before .loop-test .left) (c .if2 .left))
 
 pub words-spec : {M : Type 1} → statement M
 words-spec =

@@ -32,11 +32,17 @@ same-length-4 c = search needs
 
 returns : tie.Need-returns
 returns c =
-    let args = c .before .before .before .before .before .before .before .before .before .before .before .before .before .before .before .before .before .before .before .before .args in
-    let zero-u8 = c .before .before .before .before .before .before .before .before .before .before .before .before .before .before .zero-u8 in
-    let zero-u32 = c .before .before .before .before .before .before .before .before .before .before .zero-u32 in
+    let d = c .before .before .before .before .before .before .before .before .before .before in
+    let args = d .before .before .before .before .before .before .before .before .before .before .args in
+    let zero-u8 = d .before .before .before .before .zero-u8 in
+    let zero-u32 = d .zero-u32 in
     let zero-u322 = c .before .before .before .before .before .before .zero-u322 in
-    record { of-bytes = zero-u8 .ensures ∙ sym (laid-none (length (args .bytes .now))); of-ends = zero-u32 .ensures ∙ sym (laid-none (length (args .ends .now))); of-schema = zero-u322 .ensures ∙ sym (laid-none (length (args .schema .now))); of-instance = c .before .before .zero-u323 .ensures ∙ sym (laid-none (length (args .instance .now))) }
+    record {
+      of-bytes = zero-u8 .ensures ∙ sym (laid-none (length (args .bytes .now)));
+      of-ends = zero-u32 .ensures ∙ sym (laid-none (length (args .ends .now)));
+      of-schema = zero-u322 .ensures ∙ sym (laid-none (length (args .schema .now)));
+      of-instance = c .before .before .zero-u323 .ensures ∙ sym (laid-none (length (args .instance .now)));
+    }
 
 pub zero-outputs-spec : {M : Type 1} → statement M
 zero-outputs-spec =

@@ -16,7 +16,8 @@ returns-2 : tie.Need-returns-2
 returns-2 c = sym (ap asNumber (laws.hex-decimal (c .before .before .args .c) (c .before .if1 .left) (c .if2 .taken)))
 
 returns-3 : tie.Need-returns-3
-returns-3 c = sym (ap asNumber (laws.hex-between (c .before .before .before .args .c) (c .before .if2 .left) (c .if3 .taken)))
+returns-3 c =
+    sym (ap asNumber (laws.hex-between (c .before .before .before .args .c) (c .before .if2 .left) (c .if3 .taken)))
 
 returns-4 : tie.Need-returns-4
 returns-4 c =

@@ -14,7 +14,8 @@ shared-slice-read-result : tie.Need-shared-slice-read-result
 shared-slice-read-result c = search needs
 
 returns-3 : tie.Need-returns-3
-returns-3 c = laws.zeros-more (c .before .before .before .args .text .now) (c .before .before .if1 .left) (c .before .if2 .left)
+returns-3 c =
+    laws.zeros-more (c .before .before .before .args .text .now) (c .before .before .if1 .left) (c .before .if2 .left)
 
 pub no-leading-zero-spec : {M : Type 1} → statement M
 no-leading-zero-spec = tie.close (tie.spec returns returns-2 shared-slice-read-result returns-3)

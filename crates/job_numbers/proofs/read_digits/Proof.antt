@@ -27,13 +27,17 @@ returns : tie.Need-returns Inv-loop μ-loop
 returns c =
     let args = c .before .before .before .before .args in
     let loop = c .before .before .before .loop in
-    sym (ap asNumber (loop .inv .1 ∙ ap (digitsOf (loop .value)) (drop-one (args .text .now) (loop .i) (omega arith)) ∙ laws.digits-low (loop .value) (getD (args .text .now) (loop .i) 0) (drop (loop .i + 1) (args .text .now)) (c .if1 .taken)))
+    sym (ap asNumber (loop .inv .1 ∙ ap (digitsOf (loop .value)) (drop-one (args .text .now) (loop .i) (omega arith))
+    ∙ laws.digits-low (loop .value) (getD (args .text .now) (loop .i) 0)
+    (drop (loop .i + 1) (args .text .now)) (c .if1 .taken)))
 
 returns-2 : tie.Need-returns-2 Inv-loop μ-loop
 returns-2 c =
     let args = c .before .before .before .before .before .args in
     let loop = c .before .before .before .before .loop in
-    sym (ap asNumber (loop .inv .1 ∙ ap (digitsOf (loop .value)) (drop-one (args .text .now) (loop .i) (omega arith)) ∙ laws.digits-high (loop .value) (getD (args .text .now) (loop .i) 0) (drop (loop .i + 1) (args .text .now)) (c .if2 .taken)))
+    sym (ap asNumber (loop .inv .1 ∙ ap (digitsOf (loop .value)) (drop-one (args .text .now) (loop .i) (omega arith))
+    ∙ laws.digits-high (loop .value) (getD (args .text .now) (loop .i) 0)
+    (drop (loop .i + 1) (args .text .now)) (c .if2 .taken)))
 
 mul-value : tie.Need-mul-value Inv-loop μ-loop
 mul-value c = omega arith
@@ -52,7 +56,10 @@ returns-3 : tie.Need-returns-3 Inv-loop μ-loop
 returns-3 c =
     let args = c .before .before .before .before .before .before .args in
     let loop = c .before .before .before .before .before .loop in
-    sym (ap asNumber (loop .inv .1 ∙ ap (digitsOf (loop .value)) (drop-one (args .text .now) (loop .i) (omega arith)) ∙ laws.digits-more (loop .value) (getD (args .text .now) (loop .i) 0) (drop (loop .i + 1) (args .text .now)) (c .before .before .if1 .left) (c .before .if2 .left) ∙ laws.digits-over _ (drop (loop .i + 1) (args .text .now)) (c .if3 .taken)))
+    sym (ap asNumber (loop .inv .1 ∙ ap (digitsOf (loop .value)) (drop-one (args .text .now) (loop .i) (omega arith))
+    ∙ laws.digits-more (loop .value) (getD (args .text .now) (loop .i) 0)
+    (drop (loop .i + 1) (args .text .now)) (c .before .before .if1 .left) (c .before .if2 .left)
+    ∙ laws.digits-over _ (drop (loop .i + 1) (args .text .now)) (c .if3 .taken)))
 
 add-i : tie.Need-add-i Inv-loop μ-loop
 add-i c = omega arith
@@ -63,14 +70,21 @@ loop-less c = omega arith
 loop-again : tie.Need-loop-again Inv-loop μ-loop
 loop-again c =
     let args = c .before .before .before .before .before .before .args in
-    let loop = c .before .before .before .before .before .loop in
-    (c .if3 .left, loop .inv .1 ∙ ap (digitsOf (loop .value)) (drop-one (args .text .now) (loop .i) (omega arith)) ∙ laws.digits-more (loop .value) (getD (args .text .now) (loop .i) 0) (drop (loop .i + 1) (args .text .now)) (c .before .before .if1 .left) (c .before .if2 .left))
+    let loop = c .before .before .before .before .before .loop in (
+      c .if3 .left,
+      loop .inv .1 ∙ ap (digitsOf (loop .value)) (drop-one (args .text .now) (loop .i) (omega arith))
+          ∙ laws.digits-more (loop .value) (getD (args .text .now) (loop .i) 0)
+          (drop (loop .i + 1) (args .text .now)) (c .before .before .if1 .left) (c .before .if2 .left),
+    )
 
 cast-t11 : tie.Need-cast-t11 Inv-loop μ-loop
 cast-t11 c = omega arith
 
 returns-4 : tie.Need-returns-4 Inv-loop μ-loop
-returns-4 c = sym (ap asNumber (c .before .loop .inv .1 ∙ ap (digitsOf (c .before .loop .value)) (drop-of-length-le (c .before .before .args .text .now) (c .loop-test .left)) ∙ laws.digits-end (c .before .loop .value) (c .before .loop .inv .0)))
+returns-4 c =
+    sym (ap asNumber (c .before .loop .inv .1 ∙ ap (digitsOf (c .before .loop .value))
+    (drop-of-length-le (c .before .before .args .text .now) (c .loop-test .left))
+    ∙ laws.digits-end (c .before .loop .value) (c .before .loop .inv .0)))
 
 pub read-digits-spec : {M : Type 1} → statement M
 read-digits-spec =

@@ -15,10 +15,13 @@ read-digits-requires c κs = search needs
 returns : tie.Need-returns
 returns c =
     let args = c .before .before .before .before .args in
-    c .read-digits .ensures ∙ ap asNumber (sym (laws.number-digits (args .text .now) (sym (c .before .before .no-leading-zero .ensures) ∙ c .before .if1 .taken)))
+    c .read-digits .ensures ∙ ap asNumber (sym (laws.number-digits (args .text .now)
+    (sym (c .before .before .no-leading-zero .ensures) ∙ c .before .if1 .taken)))
 
 returns-2 : tie.Need-returns-2
-returns-2 c = sym (ap asNumber (laws.no-number (c .before .before .before .args .text .now) (sym (c .before .no-leading-zero .ensures) ∙ c .if1 .left)))
+returns-2 c =
+    sym (ap asNumber (laws.no-number (c .before .before .before .args .text .now)
+    (sym (c .before .no-leading-zero .ensures) ∙ c .if1 .left)))
 
 pub read-number-spec : {M : Type 1} → statement M
 read-number-spec =

@@ -10,7 +10,9 @@ read-number-requires : tie.Need-read-number-requires
 read-number-requires c κs = search needs
 
 returns : tie.Need-returns
-returns c = c .read-number .ensures ∙ ap asNumber (sym (laws.word-long (c .before .before .before .args .text .now) (c .before .if1 .taken)))
+returns c =
+    c .read-number .ensures
+    ∙ ap asNumber (sym (laws.word-long (c .before .before .before .args .text .now) (c .before .if1 .taken)))
 
 shared-slice-read-if2 : tie.Need-shared-slice-read-if2
 shared-slice-read-if2 c = search needs
@@ -26,7 +28,8 @@ read-number-requires-2 c κs = search needs
 returns-3 : tie.Need-returns-3
 returns-3 c =
     let args = c .before .before .before .before .before .args in
-    c .read-number2 .ensures ∙ ap asNumber (sym (laws.word-digit (args .text .now) (c .before .before .before .if1 .left) (c .before .if2 .left)))
+    c .read-number2 .ensures ∙ ap asNumber
+    (sym (laws.word-digit (args .text .now) (c .before .before .before .if1 .left) (c .before .if2 .left)))
 
 pub read-word-spec : {M : Type 1} → statement M
 read-word-spec =

@@ -21,16 +21,32 @@ fit-requires : tie.Need-fit-requires
 fit-requires c κs = search needs
 
 cast-t26 : tie.Need-cast-t26
-cast-t26 c = let l = small (c .before .before .before .before .before .before .before .before .before .before .before .before .before .before .before .before .before .before .before .before .before .before .before .args .file .now) (c .before .before .before .before .before .before .before .before .before .before .before .before .before .read-tables .ensures .0) (c .before .before .before .b .given .1) in omega (arith, l .few-bytes)
+cast-t26 c =
+    let d = c .before .before .before .before .before .before .before .before .before .before .before .before .before in
+    let l = small (d .before .before .before .before .before .before .before .before .before .before .args .file .now)
+    (d .read-tables .ensures .0) (c .before .before .before .b .given .1) in
+    omega (arith, l .few-bytes)
 
 cast-t27 : tie.Need-cast-t27
-cast-t27 c = let l = small (c .before .before .before .before .before .before .before .before .before .before .before .before .before .before .before .before .before .before .before .before .before .before .before .args .file .now) (c .before .before .before .before .before .before .before .before .before .before .before .before .before .read-tables .ensures .0) (c .before .before .before .b .given .1) in omega (arith, l .few-strings)
+cast-t27 c =
+    let d = c .before .before .before .before .before .before .before .before .before .before .before .before .before in
+    let l = small (d .before .before .before .before .before .before .before .before .before .before .args .file .now)
+    (d .read-tables .ensures .0) (c .before .before .before .b .given .1) in
+    omega (arith, l .few-strings)
 
 cast-t29 : tie.Need-cast-t29
-cast-t29 c = let l = small (c .before .before .before .before .before .before .before .before .before .before .before .before .before .before .before .before .before .before .before .before .before .before .before .args .file .now) (c .before .before .before .before .before .before .before .before .before .before .before .before .before .read-tables .ensures .0) (c .before .before .before .b .given .1) in omega (arith, l .few-rows)
+cast-t29 c =
+    let d = c .before .before .before .before .before .before .before .before .before .before .before .before .before in
+    let l = small (d .before .before .before .before .before .before .before .before .before .before .args .file .now)
+    (d .read-tables .ensures .0) (c .before .before .before .b .given .1) in
+    omega (arith, l .few-rows)
 
 cast-t31 : tie.Need-cast-t31
-cast-t31 c = let l = small (c .before .before .before .before .before .before .before .before .before .before .before .before .before .before .before .before .before .before .before .before .before .before .before .args .file .now) (c .before .before .before .before .before .before .before .before .before .before .before .before .before .read-tables .ensures .0) (c .before .before .before .b .given .1) in omega (arith, l .few-nodes)
+cast-t31 c =
+    let d = c .before .before .before .before .before .before .before .before .before .before .before .before .before in
+    let l = small (d .before .before .before .before .before .before .before .before .before .before .args .file .now)
+    (d .read-tables .ensures .0) (c .before .before .before .b .given .1) in
+    omega (arith, l .few-nodes)
 
 same-length : tie.Need-same-length
 same-length c = search needs
@@ -46,10 +62,13 @@ same-length-4 c = search needs
 
 returns : tie.Need-returns
 returns c =
-    let args = c .before .before .before .before .before .before .before .before .before .before .before .before .before .before .before .before .before .before .before .before .before .before .before .args in
+    let d = c .before .before .before .before .before .before .before .before .before .before .before .before .before in
+    let args = d .before .before .before .before .before .before .before .before .before .before .args in
     let room = roomOf (args .bytes .now) (args .ends .now) (args .schema .now) (args .instance .now) in
-    let read-tables = c .before .before .before .before .before .before .before .before .before .before .before .before .before .read-tables in
-    let p = tables-fit {room = room} (args .file .now) (read-tables .last .1 .0) (read-tables .last .1 .1 .0) (read-tables .last .1 .1 .1 .0) (read-tables .last .1 .1 .1 .1 .0) (read-tables .ensures .1) (read-tables .ensures .0) (c .before .before .before .b .given .1) (c .before .fit .ensures) (c .if1 .taken) in
+    let read-tables = d .read-tables in
+    let p = tables-fit {room = room} (args .file .now) (read-tables .last .1 .0) (read-tables .last .1 .1 .0)
+    (read-tables .last .1 .1 .1 .0) (read-tables .last .1 .1 .1 .1 .0) (read-tables .ensures .1)
+    (read-tables .ensures .0) (c .before .before .before .b .given .1) (c .before .fit .ensures) (c .if1 .taken) in
     (p .answer, p .outputs)
 
 zero-outputs-requires : tie.Need-zero-outputs-requires
@@ -69,10 +88,13 @@ same-length-8 c = search needs
 
 returns-2 : tie.Need-returns-2
 returns-2 c =
-    let args = c .before .before .before .before .before .before .before .before .before .before .before .before .before .before .before .before .before .before .before .before .before .args in
+    let d = c .before .before .before .before .before .before .before .before .before .before .before in
+    let args = d .before .before .before .before .before .before .before .before .before .before .args in
     let room = roomOf (args .bytes .now) (args .ends .now) (args .schema .now) (args .instance .now) in
-    let read-tables = c .before .before .before .before .before .before .before .before .before .before .before .read-tables in
-    let p = line-wrong {room = room} (args .file .now) (read-tables .last .1 .0) (read-tables .last .1 .1 .0) (read-tables .last .1 .1 .1 .0) (read-tables .last .1 .1 .1 .1 .0) (read-tables .ensures .1) (read-tables .ensures .0) (c .before .line .given .1) in
+    let read-tables = d .read-tables in
+    let p = line-wrong {room = room} (args .file .now) (read-tables .last .1 .0)
+    (read-tables .last .1 .1 .0) (read-tables .last .1 .1 .1 .0) (read-tables .last .1 .1 .1 .1 .0)
+    (read-tables .ensures .1) (read-tables .ensures .0) (c .before .line .given .1) in
     (p .answer, p .outputs)
 
 same-length-9 : tie.Need-same-length-9
@@ -89,12 +111,19 @@ same-length-12 c = search needs
 
 returns-3 : tie.Need-returns-3
 returns-3 c =
-    let args = c .before .before .before .before .before .before .before .before .before .before .before .before .before .before .before .before .before .before .before .before .before .before .before .before .before .before .before .before .before .before .before .before .before .before .before .before .args in
+    let c₁ = c .before .before .before .before .before .before .before .before in
+    let c₂ = c₁ .before .before .before .before .before in
+    let c₃ = c₂ .before .before .before in
+    let c₄ = c₃ .before .before .before .before .before .before .before .before .before .before in
+    let args = c₄ .before .before .before .before .before .before .before .before .before .before .args in
     let room = roomOf (args .bytes .now) (args .ends .now) (args .schema .now) (args .instance .now) in
-    let read-tables = c .before .before .before .before .before .before .before .before .before .before .before .before .before .before .before .before .before .before .before .before .before .before .before .before .before .before .read-tables in
-    let zero-outputs = c .before .before .before .before .before .before .before .before .zero-outputs in
-    let zeros = in-room {other = room} (zero-outputs .ensures) (read-tables .kept .1 .0) (read-tables .kept .1 .1 .0) (read-tables .kept .1 .1 .1 .0) (read-tables .kept .1 .1 .1 .1 .0) in
-    let p = tables-short {room = room} (args .file .now) (read-tables .last .1 .0) (read-tables .last .1 .1 .0) (read-tables .last .1 .1 .1 .0) (read-tables .last .1 .1 .1 .1 .0) (read-tables .ensures .1) (read-tables .ensures .0) (c .before .before .before .before .before .before .before .before .before .before .before .before .before .before .before .before .b .given .1) (c .before .before .before .before .before .before .before .before .before .before .before .before .before .before .fit .ensures) (c .before .before .before .before .before .before .before .before .before .before .before .before .before .if1 .left) zeros in
+    let read-tables = c₄ .read-tables in
+    let zero-outputs = c₁ .zero-outputs in
+    let zeros = in-room {other = room} (zero-outputs .ensures) (read-tables .kept .1 .0)
+    (read-tables .kept .1 .1 .0) (read-tables .kept .1 .1 .1 .0) (read-tables .kept .1 .1 .1 .1 .0) in
+    let p = tables-short {room = room} (args .file .now) (read-tables .last .1 .0) (read-tables .last .1 .1 .0)
+    (read-tables .last .1 .1 .1 .0) (read-tables .last .1 .1 .1 .1 .0) (read-tables .ensures .1)
+    (read-tables .ensures .0) (c₃ .b .given .1) (c₂ .before .fit .ensures) (c₂ .if1 .left) zeros in
     (p .answer, p .outputs)
 
 pub read-job-spec : {M : Type 1} → statement M

@@ -81,7 +81,13 @@ put-number-put-requires-2 : (t : ℕ) → put-number-lts.Need-put-requires-2 (
   put-number-below t,
   put-number.Post,
 ) (put-number-at t) put-number.Post
-put-number-put-requires-2 t c κs = let m = c .before .before .before .put-number .ensures .moves in let e = ap length (decimal-long (c .before .before .before .before .before .before .before .args .n) (omega arith) (omega arith)) ∙ length-append (decimal (c .before .before .before .before .before .before .before .args .n / 10)) ((48 + c .before .before .before .before .before .before .before .args .n % 10) ∷ []) in let d = decimal-length (c .before .before .before .before .before .before .before .args .n) in omega arith
+put-number-put-requires-2 t c κs =
+    let a = c .before .before .before .before .before .before .before .args in
+    let m = c .before .before .before .put-number .ensures .moves in
+    let e = ap length (decimal-long (a .n) (omega arith) (omega arith))
+    ∙ length-append (decimal (a .n / 10)) ((48 + a .n % 10) ∷ []) in
+    let d = decimal-length (a .n) in
+    omega arith
 
 put-number-same-length : (t : ℕ) → put-number-lts.Need-same-length (
   put-reads.Asked,
@@ -97,7 +103,9 @@ put-number-returns : (t : ℕ) → put-number-lts.Need-returns (
   put-number-below t,
   put-number.Post,
 ) (put-number-at t) put-number.Post
-put-number-returns t c = wrote-as (sym (decimal-short (c .before .before .before .before .before .before .args .n) (omega arith))) (c .before .before .put .ensures)
+put-number-returns t c =
+    wrote-as (sym (decimal-short (c .before .before .before .before .before .before .args .n) (omega arith)))
+    (c .before .before .put .ensures)
 
 put-number-same-length-2 : (t : ℕ) → put-number-lts.Need-same-length-2 (
   put-reads.Asked,
@@ -105,7 +113,9 @@ put-number-same-length-2 : (t : ℕ) → put-number-lts.Need-same-length-2 (
   put-number-below t,
   put-number.Post,
 ) (put-number-at t) put-number.Post
-put-number-same-length-2 t c = wrote-length (c .before .before .put2 .ensures) ∙ wrote-length (c .before .before .before .before .before .before .put-number .ensures)
+put-number-same-length-2 t c =
+    wrote-length (c .before .before .put2 .ensures)
+    ∙ wrote-length (c .before .before .before .before .before .before .put-number .ensures)
 
 put-number-returns-2 : (t : ℕ) → put-number-lts.Need-returns-2 (
   put-reads.Asked,
@@ -113,7 +123,10 @@ put-number-returns-2 : (t : ℕ) → put-number-lts.Need-returns-2 (
   put-number-below t,
   put-number.Post,
 ) (put-number-at t) put-number.Post
-put-number-returns-2 t c = wrote-as (sym (decimal-long (c .before .before .before .before .before .before .before .before .before .before .args .n) (omega arith) (omega arith))) (wrote-more (c .before .before .before .before .before .before .put-number .ensures) (c .before .before .put2 .ensures))
+put-number-returns-2 t c =
+    let d = c .before .before .before .before .before .before in
+    wrote-as (sym (decimal-long (d .before .before .before .before .args .n) (omega arith) (omega arith)))
+    (wrote-more (d .put-number .ensures) (c .before .before .put2 .ensures))
 
 pub +put-number-spec : {M : Type 1} → statement M
 +put-number-spec = close μ-put-number λ t. put-number-lts.spec (

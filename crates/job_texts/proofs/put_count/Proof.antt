@@ -13,13 +13,27 @@ put-number-requires : tie.Need-put-number-requires
 put-number-requires c κs = search needs
 
 put-requires : tie.Need-put-requires
-put-requires c κs = let d = decimal-length (c .before .before .before .before .before .before .before .before .before .before .before .args .n) in let e = c .before .before .before .before .before .before .before .put-text .ensures .moves in let f = c .before .before .before .put-number .ensures .moves in omega arith
+put-requires c κs =
+    let c₁ = c .before .before .before .before .before .before .before in
+    let d = decimal-length (c₁ .before .before .before .before .args .n) in
+    let e = c₁ .put-text .ensures .moves in
+    let f = c .before .before .before .put-number .ensures .moves in
+    omega arith
 
 same-length : tie.Need-same-length
 same-length c = search needs
 
 returns : tie.Need-returns
-returns c = let d = decimal-length (c .before .before .before .before .before .before .before .before .before .before .before .before .before .before .args .n) in let e = c .before .before .before .before .before .before .before .before .before .before .put-text .ensures .moves in let f = c .before .before .before .before .before .before .put-number .ensures .moves in let g = c .before .before .put .ensures .moves in (wrote-more (wrote-more (c .before .before .before .before .before .before .before .before .before .before .put-text .ensures) (c .before .before .before .before .before .before .put-number .ensures)) (c .before .before .put .ensures), omega arith)
+returns c =
+    let c₁ = c .before .before .before .before .before .before in
+    let d = decimal-length (c₁ .before .before .before .before .before .before .before .before .args .n) in
+    let e = c₁ .before .before .before .before .put-text .ensures .moves in
+    let f = c₁ .put-number .ensures .moves in
+    let g = c .before .before .put .ensures .moves in (
+      wrote-more (wrote-more (c₁ .before .before .before .before .put-text .ensures) (c₁ .put-number .ensures))
+          (c .before .before .put .ensures),
+      omega arith,
+    )
 
 pub put-count-spec : {M : Type 1} → statement M
 put-count-spec =

@@ -46,7 +46,11 @@ slice-aggregate-put-count-3 : tie.Need-slice-aggregate-put-count-3
 slice-aggregate-put-count-3 c = search needs
 
 cast-put-count-3 : tie.Need-cast-put-count-3
-cast-put-count-3 c = let s = c .before .before .before .before .before .before .before .before .before .before .before .before .before .before .before .before .before .before .before .before .before .before .before .before .before .before .before .before .before .before .before .pre .few-nodes in omega arith
+cast-put-count-3 c =
+    let s = c .before .before .before .before .before .before .before .before .before .before
+    .before .before .before .before .before .before .before .before .before .before .before .before
+    .before .before .before .before .before .before .before .before .before .pre .few-nodes in
+    omega arith
 
 put-count-requires-3 : tie.Need-put-count-requires-3
 put-count-requires-3 c κs = search needs
@@ -55,7 +59,18 @@ slice-aggregate-put-rows-2 : tie.Need-slice-aggregate-put-rows-2
 slice-aggregate-put-rows-2 c = search needs
 
 put-rows-requires-2 : tie.Need-put-rows-requires-2
-put-rows-requires-2 c κs = let s = c .before .before .before .before .before .before .before .before .before .before .before .before .before .before .before .before .before .before .before .before .before .before .before .before .before .before .before .before .before .before .before .before .before .before .before .before .pre in let f = s .few-nodes in let w = s .whole-nodes in let n3 = c .before .before .before .before .put-count3 .ensures .1 in let n2 = c .before .before .before .before .before .before .before .before .before .put-rows .ensures .1 in let n1 = c .before .before .before .before .before .before .before .before .before .before .before .before .before .before .put-count2 .ensures .1 in let n0 = c .before .before .before .before .before .before .before .before .before .before .before .before .before .before .before .before .before .before .before .put-strings .ensures .1 in (omega arith, omega arith, omega arith, omega arith, omega arith, omega arith)
+put-rows-requires-2 c κs =
+    let c₁ = c .before .before .before .before .before .before .before .before .before in
+    let c₂ = c₁ .before .before .before .before .before in
+    let s = c₂ .before .before .before .before .before .before .before .before .before .before .before
+    .before .before .before .before .before .before .before .before .before .before .before .pre in
+    let f = s .few-nodes in
+    let w = s .whole-nodes in
+    let n3 = c .before .before .before .before .put-count3 .ensures .1 in
+    let n2 = c₁ .put-rows .ensures .1 in
+    let n1 = c₂ .put-count2 .ensures .1 in
+    let n0 = c₂ .before .before .before .before .before .put-strings .ensures .1 in
+    (omega arith, omega arith, omega arith, omega arith, omega arith, omega arith)
 
 slice-aggregate-put-text-2 : tie.Need-slice-aggregate-put-text-2
 slice-aggregate-put-text-2 c = search needs
@@ -64,10 +79,31 @@ put-text-requires-2 : tie.Need-put-text-requires-2
 put-text-requires-2 c κs = search needs
 
 same-length : tie.Need-same-length
-same-length c = wrote-length (c .before .before .put-text2 .ensures) ∙ wrote-length (c .before .before .before .before .before .before .before .put-rows2 .ensures .0) ∙ wrote-length (c .before .before .before .before .before .before .before .before .before .before .before .before .put-count3 .ensures .0) ∙ wrote-length (c .before .before .before .before .before .before .before .before .before .before .before .before .before .before .before .before .before .put-rows .ensures .0) ∙ wrote-length (c .before .before .before .before .before .before .before .before .before .before .before .before .before .before .before .before .before .before .before .before .before .before .put-count2 .ensures .0) ∙ wrote-length (c .before .before .before .before .before .before .before .before .before .before .before .before .before .before .before .before .before .before .before .before .before .before .before .before .before .before .before .put-strings .ensures .0) ∙ wrote-length (c .before .before .before .before .before .before .before .before .before .before .before .before .before .before .before .before .before .before .before .before .before .before .before .before .before .before .before .before .before .before .before .put-count .ensures .0) ∙ wrote-length (c .before .before .before .before .before .before .before .before .before .before .before .before .before .before .before .before .before .before .before .before .before .before .before .before .before .before .before .before .before .before .before .before .before .before .before .before .put-text .ensures)
+same-length c =
+    let c₁ = c .before .before .before .before .before .before .before in
+    let c₂ = c₁ .before .before .before .before .before .before .before .before .before .before in
+    let c₃ = c₂ .before .before .before .before .before .before .before .before .before .before in
+    wrote-length (c .before .before .put-text2 .ensures) ∙ wrote-length (c₁ .put-rows2 .ensures .0)
+    ∙ wrote-length (c₁ .before .before .before .before .before .put-count3 .ensures .0)
+    ∙ wrote-length (c₂ .put-rows .ensures .0)
+    ∙ wrote-length (c₂ .before .before .before .before .before .put-count2 .ensures .0)
+    ∙ wrote-length (c₃ .put-strings .ensures .0)
+    ∙ wrote-length (c₃ .before .before .before .before .put-count .ensures .0)
+    ∙ wrote-length (c₃ .before .before .before .before .before .before .before .before .before .put-text .ensures)
 
 returns : tie.Need-returns
-returns c = wrote-job (tablesOf (stringTable (now (c .before .before .before .before .before .before .before .before .before .before .before .before .before .before .before .before .before .before .before .before .before .before .before .before .before .before .before .before .before .before .before .before .before .before .before .before .before .before .before .before .before .before .before .before .args .bytes)) (now (c .before .before .before .before .before .before .before .before .before .before .before .before .before .before .before .before .before .before .before .before .before .before .before .before .before .before .before .before .before .before .before .before .before .before .before .before .before .before .before .before .before .before .before .before .args .ends))) (now (c .before .before .before .before .before .before .before .before .before .before .before .before .before .before .before .before .before .before .before .before .before .before .before .before .before .before .before .before .before .before .before .before .before .before .before .before .before .before .before .before .before .before .before .before .args .schema)) (now (c .before .before .before .before .before .before .before .before .before .before .before .before .before .before .before .before .before .before .before .before .before .before .before .before .before .before .before .before .before .before .before .before .before .before .before .before .before .before .before .before .before .before .before .before .args .instance))) (c .before .before .before .before .before .before .before .before .before .before .before .before .before .before .before .before .before .before .before .before .before .before .before .before .before .before .before .before .before .before .before .before .before .before .before .before .put-text .ensures) (c .before .before .before .before .before .before .before .before .before .before .before .before .before .before .before .before .before .before .before .before .before .before .before .before .before .before .before .before .before .before .before .put-count .ensures .0) (c .before .before .before .before .before .before .before .before .before .before .before .before .before .before .before .before .before .before .before .before .before .before .before .before .before .before .before .put-strings .ensures .0) (c .before .before .before .before .before .before .before .before .before .before .before .before .before .before .before .before .before .before .before .before .before .before .put-count2 .ensures .0) (c .before .before .before .before .before .before .before .before .before .before .before .before .before .before .before .before .before .put-rows .ensures .0) (c .before .before .before .before .before .before .before .before .before .before .before .before .put-count3 .ensures .0) (c .before .before .before .before .before .before .before .put-rows2 .ensures .0) (c .before .before .put-text2 .ensures)
+returns c =
+    let c₁ = c .before .before .before .before .before .before .before in
+    let c₂ = c₁ .before .before .before .before .before in
+    let c₃ = c₂ .before .before .before .before .before .before .before .before .before .before in
+    let c₄ = c₃ .before .before .before .before .before in
+    let c₅ = c₄ .before .before .before .before .before .before .before .before .before in
+    let a = c₅ .before .before .before .before .before .before .before .before .args in
+    wrote-job (tablesOf (stringTable (now (a .bytes)) (now (a .ends))) (now (a .schema)) (now (a .instance)))
+    (c₅ .put-text .ensures) (c₄ .before .before .before .before .put-count .ensures .0)
+    (c₄ .put-strings .ensures .0) (c₃ .put-count2 .ensures .0)
+    (c₂ .before .before .before .before .before .put-rows .ensures .0) (c₂ .put-count3 .ensures .0)
+    (c₁ .put-rows2 .ensures .0) (c .before .before .put-text2 .ensures)
 
 pub put-job-spec : {M : Type 1} → statement M
 put-job-spec =

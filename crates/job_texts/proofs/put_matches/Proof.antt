@@ -33,7 +33,17 @@ same-length : tie.Need-same-length
 same-length c = search needs
 
 returns : tie.Need-returns
-returns c = let m = c .before .before .put-rows .ensures .1 in let n = c .before .before .before .before .before .before .before .put-count .ensures .1 in let k = c .before .before .before .before .before .before .before .before .before .before .before .before .put-valid .ensures .1 in (wrote-matches (c .before .before .before .before .before .before .before .before .before .before .before .before .before .before .before .before .args .valid) (now (c .before .before .before .before .before .before .before .before .before .before .before .before .before .before .before .before .args .list)) (c .before .before .before .before .before .before .before .before .before .before .before .before .put-valid .ensures .0) (c .before .before .before .before .before .before .before .put-count .ensures .0) (c .before .before .put-rows .ensures .0), omega arith)
+returns c =
+    let c₁ = c .before .before .before .before .before .before .before in
+    let c₂ = c₁ .before .before .before .before .before in
+    let m = c .before .before .put-rows .ensures .1 in
+    let n = c₁ .put-count .ensures .1 in
+    let k = c₂ .put-valid .ensures .1 in (
+      wrote-matches (c₂ .before .before .before .before .args .valid)
+          (now (c₂ .before .before .before .before .args .list)) (c₂ .put-valid .ensures .0)
+          (c₁ .put-count .ensures .0) (c .before .before .put-rows .ensures .0),
+      omega arith,
+    )
 
 pub put-matches-spec : {M : Type 1} → statement M
 put-matches-spec =

@@ -14,13 +14,30 @@ put-words-requires : tie.Need-put-words-requires
 put-words-requires c κs = search needs
 
 put-requires : tie.Need-put-requires
-put-requires c κs = let w = words-length (take (c .before .before .before .before .before .before .before .before .before .before .before .before .args .width) (drop (c .before .before .before .before .before .before .before .before .before .before .before .before .args .first) (now (c .before .before .before .before .before .before .before .before .before .before .before .before .args .table)))) in let l = row-length (now (c .before .before .before .before .before .before .before .before .before .before .before .before .args .table)) (c .before .before .before .before .before .before .before .before .before .before .before .before .args .first) (c .before .before .before .before .before .before .before .before .before .before .before .before .args .width) (omega arith) in let e = c .before .before .before .before .before .before .before .put-text .ensures .moves in let f = c .before .before .before .put-words .ensures .moves in omega arith
+put-requires c κs =
+    let a = c .before .before .before .before .before .before .before .before .before .before .before .before .args in
+    let w = words-length (take (a .width) (drop (a .first) (now (a .table)))) in
+    let l = row-length (now (a .table)) (a .first) (a .width) (omega arith) in
+    let e = c .before .before .before .before .before .before .before .put-text .ensures .moves in
+    let f = c .before .before .before .put-words .ensures .moves in
+    omega arith
 
 same-length : tie.Need-same-length
 same-length c = search needs
 
 returns : tie.Need-returns
-returns c = let w = words-length (take (c .before .before .before .before .before .before .before .before .before .before .before .before .before .before .before .args .width) (drop (c .before .before .before .before .before .before .before .before .before .before .before .before .before .before .before .args .first) (now (c .before .before .before .before .before .before .before .before .before .before .before .before .before .before .before .args .table)))) in let l = row-length (now (c .before .before .before .before .before .before .before .before .before .before .before .before .before .before .before .args .table)) (c .before .before .before .before .before .before .before .before .before .before .before .before .before .before .before .args .first) (c .before .before .before .before .before .before .before .before .before .before .before .before .before .before .before .args .width) (omega arith) in let e = c .before .before .before .before .before .before .before .before .before .before .put-text .ensures .moves in let f = c .before .before .before .before .before .before .put-words .ensures .moves in let g = c .before .before .put .ensures .moves in (wrote-more (wrote-more (c .before .before .before .before .before .before .before .before .before .before .put-text .ensures) (c .before .before .before .before .before .before .put-words .ensures)) (c .before .before .put .ensures), omega arith)
+returns c =
+    let d = c .before .before .before .before .before .before in
+    let a = d .before .before .before .before .before .before .before .before .before .args in
+    let w = words-length (take (a .width) (drop (a .first) (now (a .table)))) in
+    let l = row-length (now (a .table)) (a .first) (a .width) (omega arith) in
+    let e = d .before .before .before .before .put-text .ensures .moves in
+    let f = d .put-words .ensures .moves in
+    let g = c .before .before .put .ensures .moves in (
+      wrote-more (wrote-more (d .before .before .before .before .put-text .ensures) (d .put-words .ensures))
+          (c .before .before .put .ensures),
+      omega arith,
+    )
 
 pub put-row-spec : {M : Type 1} → statement M
 put-row-spec =

@@ -20,16 +20,42 @@ text-requires : tie.Need-text-requires
 text-requires c κs = search needs
 
 put-hex-requires : tie.Need-put-hex-requires
-put-hex-requires c κs = let e = c .before .before .before .before .put-text .ensures .moves in let h = ap length (c .text .ensures .holds) in let t = text-length (stringTable (now (c .before .before .before .before .before .before .before .before .before .before .args .bytes)) (now (c .before .before .before .before .before .before .before .before .before .before .args .ends))) (c .before .before .before .before .before .before .before .before .before .before .args .k) in omega arith
+put-hex-requires c κs =
+    let a = c .before .before .before .before .before .before .before .before .before .before .args in
+    let e = c .before .before .before .before .put-text .ensures .moves in
+    let h = ap length (c .text .ensures .holds) in
+    let t = text-length (stringTable (now (a .bytes)) (now (a .ends))) (a .k) in
+    omega arith
 
 put-requires : tie.Need-put-requires
-put-requires c κs = let e = c .before .before .before .before .before .before .before .before .put-text .ensures .moves in let h = ap length (c .before .before .before .before .text .ensures .holds) in let t = text-length (stringTable (now (c .before .before .before .before .before .before .before .before .before .before .before .before .before .before .args .bytes)) (now (c .before .before .before .before .before .before .before .before .before .before .before .before .before .before .args .ends))) (c .before .before .before .before .before .before .before .before .before .before .before .before .before .before .args .k) in let f = c .before .before .before .put-hex .ensures .moves in let g = hex-length (now (c .before .before .before .before .text .result)) in omega arith
+put-requires c κs =
+    let d = c .before .before .before .before in
+    let a = d .before .before .before .before .before .before .before .before .before .before .args in
+    let e = d .before .before .before .before .put-text .ensures .moves in
+    let h = ap length (d .text .ensures .holds) in
+    let t = text-length (stringTable (now (a .bytes)) (now (a .ends))) (a .k) in
+    let f = c .before .before .before .put-hex .ensures .moves in
+    let g = hex-length (now (d .text .result)) in
+    omega arith
 
 same-length : tie.Need-same-length
 same-length c = search needs
 
 returns : tie.Need-returns
-returns c = let e = c .before .before .before .before .before .before .before .before .before .before .before .put-text .ensures .moves in let h = ap length (c .before .before .before .before .before .before .before .text .ensures .holds) in let t = text-length (stringTable (now (c .before .before .before .before .before .before .before .before .before .before .before .before .before .before .before .before .before .args .bytes)) (now (c .before .before .before .before .before .before .before .before .before .before .before .before .before .before .before .before .before .args .ends))) (c .before .before .before .before .before .before .before .before .before .before .before .before .before .before .before .before .before .args .k) in let f = c .before .before .before .before .before .before .put-hex .ensures .moves in let g = hex-length (now (c .before .before .before .before .before .before .before .text .result)) in let k = c .before .before .put .ensures .moves in (wrote-more (wrote-more (c .before .before .before .before .before .before .before .before .before .before .before .put-text .ensures) (wrote-as (ap hexText (c .before .before .before .before .before .before .before .text .ensures .holds)) (c .before .before .before .before .before .before .put-hex .ensures))) (c .before .before .put .ensures), omega arith)
+returns c =
+    let c₁ = c .before .before .before .before .before .before in
+    let c₂ = c₁ .before .before .before .before .before in
+    let a = c₂ .before .before .before .before .before .before .args in
+    let e = c₂ .put-text .ensures .moves in
+    let h = ap length (c₁ .before .text .ensures .holds) in
+    let t = text-length (stringTable (now (a .bytes)) (now (a .ends))) (a .k) in
+    let f = c₁ .put-hex .ensures .moves in
+    let g = hex-length (now (c₁ .before .text .result)) in
+    let k = c .before .before .put .ensures .moves in (
+      wrote-more (wrote-more (c₂ .put-text .ensures) (wrote-as (ap hexText (c₁ .before .text .ensures .holds))
+          (c₁ .put-hex .ensures))) (c .before .before .put .ensures),
+      omega arith,
+    )
 
 pub put-string-spec : {M : Type 1} → statement M
 put-string-spec =

@@ -14,7 +14,9 @@ use mathlib.Core.Path.{_≡_, ap, sym}
 use native.Mathlib.Omega.{arith}
 
 abbrev Inv-loop : tie.InvT-loop
-Inv-loop out₀ at bytes ends k₀ p₀ out k p = (k ≤ length ends) × (p ≤ at + 40000 * k) × Wrote out₀ at (textOfLines (stringLines (stringTable bytes ends) 0 k)) out p
+Inv-loop out₀ at bytes ends k₀ p₀ out k p =
+    (k ≤ length ends) × (p ≤ at + 40000 * k)
+    × Wrote out₀ at (textOfLines (stringLines (stringTable bytes ends) 0 k)) out p
 
 abbrev μ-loop : tie.MeasureT-loop
 μ-loop out₀ at bytes ends k₀ p₀ out k p = length ends - k
@@ -32,13 +34,29 @@ loop-less : tie.Need-loop-less Inv-loop μ-loop
 loop-less c = omega arith
 
 loop-again : tie.Need-loop-again Inv-loop μ-loop
-loop-again c = let i = c .before .before .before .before .before .loop .inv in let x = i .1 in let n = c .before .before .put-string .ensures .1 in (omega arith, omega arith, wrote-string (stringTable (now (c .before .before .before .before .before .before .before .before .before .args .bytes)) (now (c .before .before .before .before .before .before .before .before .before .args .ends))) (c .before .before .before .before .before .loop .k) (i .2) (c .before .before .put-string .ensures .0))
+loop-again c =
+    let d = c .before .before .before .before .before in
+    let a = d .before .before .before .before .args in
+    let i = d .loop .inv in
+    let x = i .1 in
+    let n = c .before .before .put-string .ensures .1 in (
+      omega arith,
+      omega arith,
+      wrote-string (stringTable (now (a .bytes)) (now (a .ends)))
+          (d .loop .k) (i .2) (c .before .before .put-string .ensures .0),
+    )
 
 same-length : tie.Need-same-length Inv-loop μ-loop
 same-length c = wrote-length (c .before .loop .inv .2)
 
 returns : tie.Need-returns Inv-loop μ-loop
-returns c = let i = c .before .loop .inv in let e : c .before .loop .k ≡ length (now (c .before .before .before .before .before .args .ends)) = (let x = i .0 in omega arith) in (wrote-as (ap (λ k. textOfLines (stringLines (stringTable (now (c .before .before .before .before .before .args .bytes)) (now (c .before .before .before .before .before .args .ends))) 0 k)) e) (i .2), let x = i .1 in let y = i .0 in omega arith)
+returns c =
+    let a = c .before .before .before .before .before .args in
+    let i = c .before .loop .inv in
+    let e : c .before .loop .k ≡ length (now (a .ends)) = (let x = i .0 in omega arith) in (
+      wrote-as (ap (λ k. textOfLines (stringLines (stringTable (now (a .bytes)) (now (a .ends))) 0 k)) e) (i .2),
+      let x = i .1 in let y = i .0 in omega arith,
+    )
 
 pub put-strings-spec : {M : Type 1} → statement M
 put-strings-spec =

@@ -22,7 +22,12 @@ shared-slice-read-put : tie.Need-shared-slice-read-put Inv-loop μ-loop
 shared-slice-read-put c = omega arith
 
 put-requires : tie.Need-put-requires Inv-loop μ-loop
-put-requires c κs = let f = c .before .before .before .loop .inv in let m = f .wrote .moves in let l = length-take-le (c .before .before .before .loop .i) (now (c .before .before .before .before .before .before .args .text)) (f .within) in omega arith
+put-requires c κs =
+    let f = c .before .before .before .loop .inv in
+    let m = f .wrote .moves in
+    let l = length-take-le (c .before .before .before .loop .i)
+    (now (c .before .before .before .before .before .before .args .text)) (f .within) in
+    omega arith
 
 add-i : tie.Need-add-i Inv-loop μ-loop
 add-i c = let f = c .before .before .before .before .before .before .loop .inv .within in omega arith
@@ -31,7 +36,9 @@ loop-less : tie.Need-loop-less Inv-loop μ-loop
 loop-less c = omega arith
 
 loop-again : tie.Need-loop-again Inv-loop μ-loop
-loop-again c = front-more (c .before .before .before .before .before .before .loop .inv) (omega arith) refl (c .before .before .put .ensures)
+loop-again c =
+    front-more (c .before .before .before .before .before .before .loop .inv)
+    (omega arith) refl (c .before .before .put .ensures)
 
 same-length : tie.Need-same-length Inv-loop μ-loop
 same-length c = wrote-length (c .before .loop .inv .wrote)

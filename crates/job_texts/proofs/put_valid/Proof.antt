@@ -16,7 +16,10 @@ same-length : tie.Need-same-length
 same-length c = search needs
 
 returns : tie.Need-returns
-returns c = (rw (c .before .before .before .before .before .if1 .taken) (c .before .before .put-text .ensures), let m = c .before .before .put-text .ensures .moves in omega arith)
+returns c = (
+  rw (c .before .before .before .before .before .if1 .taken) (c .before .before .put-text .ensures),
+  let m = c .before .before .put-text .ensures .moves in omega arith,
+)
 
 slice-aggregate-put-text-2 : tie.Need-slice-aggregate-put-text-2
 slice-aggregate-put-text-2 c = search needs
@@ -28,7 +31,10 @@ same-length-2 : tie.Need-same-length-2
 same-length-2 c = search needs
 
 returns-2 : tie.Need-returns-2
-returns-2 c = (rw (c .before .before .before .before .before .if1 .left) (c .before .before .put-text2 .ensures), let m = c .before .before .put-text2 .ensures .moves in omega arith)
+returns-2 c = (
+  rw (c .before .before .before .before .before .if1 .left) (c .before .before .put-text2 .ensures),
+  let m = c .before .before .put-text2 .ensures .moves in omega arith,
+)
 
 pub put-valid-spec : {M : Type 1} → statement M
 put-valid-spec =

@@ -13,7 +13,9 @@ same-length : tie.Need-same-length
 same-length c = search needs
 
 returns : tie.Need-returns
-returns c = wrote-as (sym (word-largest (c .before .before .before .before .before .before .args .w) (omega arith))) (c .before .before .put .ensures)
+returns c =
+    wrote-as (sym (word-largest (c .before .before .before .before .before .before .args .w) (omega arith)))
+    (c .before .before .put .ensures)
 
 put-number-requires : tie.Need-put-number-requires
 put-number-requires c κs = search needs
@@ -22,7 +24,9 @@ same-length-2 : tie.Need-same-length-2
 same-length-2 c = search needs
 
 returns-2 : tie.Need-returns-2
-returns-2 c = wrote-as (sym (word-number (c .before .before .before .before .before .before .args .w) (λ e. omega arith))) (c .before .before .put-number .ensures)
+returns-2 c =
+    wrote-as (sym (word-number (c .before .before .before .before .before .before .args .w) (λ e. omega arith)))
+    (c .before .before .put-number .ensures)
 
 pub put-word-spec : {M : Type 1} → statement M
 put-word-spec =

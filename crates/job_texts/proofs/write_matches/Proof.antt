@@ -17,7 +17,9 @@ same-length : tie.Need-same-length
 same-length c = search needs
 
 returns : tie.Need-returns
-returns c = text-in (c .before .before .before .before .before .before .before .before .before .before .zero-u8 .ensures) (c .before .before .before .before .before .before .put-matches .ensures .0) (c .before .before .kept .ensures)
+returns c =
+    text-in (c .before .before .before .before .before .before .before .before .before .before .zero-u8 .ensures)
+    (c .before .before .before .before .before .before .put-matches .ensures .0) (c .before .before .kept .ensures)
 
 pub write-matches-spec : {M : Type 1} → statement M
 write-matches-spec =

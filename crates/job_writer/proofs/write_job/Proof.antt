@@ -31,10 +31,14 @@ same-length c = search needs
 
 returns : tie.Need-returns
 returns c =
-    let args = c .before .before .before .before .before .before .before .before .before .before .before .before .before .args in
+    let d = c .before .before .before .before .before in
+    let args = d .before .before .before .before .before .before .before .before .args in
     let J = tablesOf (stringTable (args .bytes .now) (args .ends .now)) (args .schema .now) (args .instance .now) in
-    refused-by J (length (args .out .now)) {code = 1} (omega arith) (c .before .before .before .before .before .enum-told2 .given .1) (c .before .before .before .place-of .ensures) (c .before .before .refuse .ensures .0) (c .before .before .refuse .ensures .1)
-    (stops 1 (c .before .before .before .before .before .before .before .check-strings .ensures) (c .before .before .before .before .before .enum-told2 .given .1) (sym (ap (refusalOf 1) (c .before .before .before .before .before .enum-told2 .given .1))))
+    refused-by J (length (args .out .now)) {code = 1} (omega arith)
+    (d .enum-told2 .given .1) (c .before .before .before .place-of .ensures)
+    (c .before .before .refuse .ensures .0) (c .before .before .refuse .ensures .1)
+    (stops 1 (d .before .before .check-strings .ensures) (d .enum-told2 .given .1)
+    (sym (ap (refusalOf 1) (d .enum-told2 .given .1))))
 
 check-table-requires : tie.Need-check-table-requires
 check-table-requires c κs = search needs
@@ -56,11 +60,16 @@ same-length-2 c = search needs
 
 returns-2 : tie.Need-returns-2
 returns-2 c =
-    let args = c .before .before .before .before .before .before .before .before .before .before .before .before .before .before .before .before .args in
+    let c₁ = c .before .before .before .before .before in
+    let c₂ = c₁ .before .before .before in
+    let args = c₂ .before .before .before .before .before .before .before .before .args in
     let J = tablesOf (stringTable (args .bytes .now) (args .ends .now)) (args .schema .now) (args .instance .now) in
-    refused-by J (length (args .out .now)) {code = 2} (omega arith) (c .before .before .before .before .before .enum-told4 .given .1) (c .before .before .before .place-of2 .ensures) (c .before .before .refuse2 .ensures .0) (c .before .before .refuse2 .ensures .1)
-    (on 1 (c .before .before .before .before .before .before .before .before .before .before .check-strings .ensures) (c .before .before .before .before .before .before .before .before .enum-told .given .1)
-    (stops 2 (c .before .before .before .before .before .before .before .check-table .ensures) (c .before .before .before .before .before .enum-told4 .given .1) (sym (ap (refusalOf 2) (c .before .before .before .before .before .enum-told4 .given .1)))))
+    refused-by J (length (args .out .now)) {code = 2} (omega arith)
+    (c₁ .enum-told4 .given .1) (c .before .before .before .place-of2 .ensures)
+    (c .before .before .refuse2 .ensures .0) (c .before .before .refuse2 .ensures .1)
+    (on 1 (c₂ .before .before .check-strings .ensures) (c₂ .enum-told .given .1)
+    (stops 2 (c₁ .before .before .check-table .ensures) (c₁ .enum-told4 .given .1)
+    (sym (ap (refusalOf 2) (c₁ .enum-told4 .given .1)))))
 
 check-table-requires-2 : tie.Need-check-table-requires-2
 check-table-requires-2 c κs = search needs
@@ -82,23 +91,31 @@ same-length-3 c = search needs
 
 returns-3 : tie.Need-returns-3
 returns-3 c =
-    let args = c .before .before .before .before .before .before .before .before .before .before .before .before .before .before .before .before .before .before .before .args in
+    let c₁ = c .before .before .before .before .before in
+    let c₂ = c₁ .before .before .before .before .before in
+    let args = c₂ .before .before .before .before .before .before .before .before .before .args in
     let J = tablesOf (stringTable (args .bytes .now) (args .ends .now)) (args .schema .now) (args .instance .now) in
-    refused-by J (length (args .out .now)) {code = 9} (omega arith) (c .before .before .before .before .before .enum-told6 .given .1) (c .before .before .before .place-of3 .ensures) (c .before .before .refuse3 .ensures .0) (c .before .before .refuse3 .ensures .1)
-    (on 1 (c .before .before .before .before .before .before .before .before .before .before .before .before .before .check-strings .ensures) (c .before .before .before .before .before .before .before .before .before .before .before .enum-told .given .1)
-    (on 2 (c .before .before .before .before .before .before .before .before .before .before .check-table .ensures) (c .before .before .before .before .before .before .before .before .enum-told3 .given .1)
-    (stops 9 (c .before .before .before .before .before .before .before .check-table2 .ensures) (c .before .before .before .before .before .enum-told6 .given .1) (sym (ap (refusalOf 9) (c .before .before .before .before .before .enum-told6 .given .1))))))
+    refused-by J (length (args .out .now)) {code = 9} (omega arith)
+    (c₁ .enum-told6 .given .1) (c .before .before .before .place-of3 .ensures)
+    (c .before .before .refuse3 .ensures .0) (c .before .before .refuse3 .ensures .1)
+    (on 1 (c₂ .before .before .before .check-strings .ensures) (c₂ .before .enum-told .given .1)
+    (on 2 (c₂ .check-table .ensures) (c₁ .before .before .before .enum-told3 .given .1)
+    (stops 9 (c₁ .before .before .check-table2 .ensures) (c₁ .enum-told6 .given .1)
+    (sym (ap (refusalOf 9) (c₁ .enum-told6 .given .1))))))
 
 zero-u8-requires : tie.Need-zero-u8-requires
 zero-u8-requires c κs = search needs
 
 put-job-requires : tie.Need-put-job-requires
 put-job-requires c κs =
-    let args = c .before .before .before .before .before .before .before .before .before .before .before .before .before .before .before .before .before .before .before .args in
+    let c₁ = c .before .before .before .before .before in
+    let c₂ = c₁ .before .before in
+    let c₃ = c₂ .before .before .before in
+    let args = c₃ .before .before .before .before .before .before .before .before .before .args in
     let J = tablesOf (stringTable (args .bytes .now) (args .ends .now)) (args .schema .now) (args .instance .now) in
-    let strings = found-none _ (c .before .before .before .before .before .before .before .before .before .before .before .before .before .check-strings .ensures) (c .before .before .before .before .before .before .before .before .before .before .before .enum-told .given .1) in
-    let rows = found-none _ (c .before .before .before .before .before .before .before .before .before .before .check-table .ensures) (c .before .before .before .before .before .before .before .before .enum-told3 .given .1) in
-    let nodes = found-none _ (c .before .before .before .before .before .before .before .check-table2 .ensures) (c .before .before .before .before .before .enum-told5 .given .1) in
+    let strings = found-none _ (c₃ .before .before .before .check-strings .ensures) (c₃ .before .enum-told .given .1) in
+    let rows = found-none _ (c₃ .check-table .ensures) (c₂ .before .enum-told3 .given .1) in
+    let nodes = found-none _ (c₂ .check-table2 .ensures) (c₁ .enum-told5 .given .1) in
     sized J (length (args .out .now)) strings rows nodes
 
 refuse-requires-4 : tie.Need-refuse-requires-4
@@ -109,14 +126,19 @@ same-length-4 c = search needs
 
 returns-4 : tie.Need-returns-4
 returns-4 c =
-    let args = c .before .before .before .before .before .before .before .before .before .before .before .before .before .before .before .before .before .before .before .before .before .before .before .before .before .before .before .args in
+    let c₁ = c .before .before .before .before .before .before .before in
+    let c₂ = c₁ .before .before .before .before .before .before in
+    let c₃ = c₂ .before .before .before .before .before in
+    let args = c₃ .before .before .before .before .before .before .before .before .before .args in
     let J = tablesOf (stringTable (args .bytes .now) (args .ends .now)) (args .schema .now) (args .instance .now) in
-    let strings = found-none _ (c .before .before .before .before .before .before .before .before .before .before .before .before .before .before .before .before .before .before .before .before .before .check-strings .ensures) (c .before .before .before .before .before .before .before .before .before .before .before .before .before .before .before .before .before .before .before .enum-told .given .1) in
-    let rows = found-none _ (c .before .before .before .before .before .before .before .before .before .before .before .before .before .before .before .before .before .before .check-table .ensures) (c .before .before .before .before .before .before .before .before .before .before .before .before .before .before .before .before .enum-told3 .given .1) in
-    let nodes = found-none _ (c .before .before .before .before .before .before .before .before .before .before .before .before .before .before .before .check-table2 .ensures) (c .before .before .before .before .before .before .before .before .before .before .before .before .before .enum-told5 .given .1) in
-    let zero-u8 = c .before .before .before .before .before .before .before .before .before .before .before .zero-u8 in
-    let put-job = c .before .before .before .before .before .before .before .put-job in
-    text-too-long J (length (args .out .now)) strings rows nodes (zero-u8 .ensures) (put-job .ensures) (c .before .before .refuse4 .ensures .0) (c .before .before .refuse4 .ensures .1) (c .before .before .before .before .if1 .taken)
+    let strings = found-none _ (c₃ .before .before .before .check-strings .ensures) (c₃ .before .enum-told .given .1) in
+    let rows = found-none _ (c₃ .check-table .ensures) (c₂ .before .before .before .enum-told3 .given .1) in
+    let nodes = found-none _ (c₂ .before .before .check-table2 .ensures) (c₂ .enum-told5 .given .1) in
+    let zero-u8 = c₁ .before .before .before .before .zero-u8 in
+    let put-job = c₁ .put-job in
+    text-too-long J (length (args .out .now)) strings rows nodes (zero-u8 .ensures)
+    (put-job .ensures) (c .before .before .refuse4 .ensures .0)
+    (c .before .before .refuse4 .ensures .1) (c .before .before .before .before .if1 .taken)
 
 refuse-requires-5 : tie.Need-refuse-requires-5
 refuse-requires-5 c κs = search needs
@@ -126,14 +148,19 @@ same-length-5 c = search needs
 
 returns-5 : tie.Need-returns-5
 returns-5 c =
-    let args = c .before .before .before .before .before .before .before .before .before .before .before .before .before .before .before .before .before .before .before .before .before .before .before .before .before .before .before .before .args in
+    let c₁ = c .before .before .before .before .before .before .before .before in
+    let c₂ = c₁ .before .before .before .before .before .before in
+    let c₃ = c₂ .before .before .before .before .before in
+    let args = c₃ .before .before .before .before .before .before .before .before .before .args in
     let J = tablesOf (stringTable (args .bytes .now) (args .ends .now)) (args .schema .now) (args .instance .now) in
-    let strings = found-none _ (c .before .before .before .before .before .before .before .before .before .before .before .before .before .before .before .before .before .before .before .before .before .before .check-strings .ensures) (c .before .before .before .before .before .before .before .before .before .before .before .before .before .before .before .before .before .before .before .before .enum-told .given .1) in
-    let rows = found-none _ (c .before .before .before .before .before .before .before .before .before .before .before .before .before .before .before .before .before .before .before .check-table .ensures) (c .before .before .before .before .before .before .before .before .before .before .before .before .before .before .before .before .before .enum-told3 .given .1) in
-    let nodes = found-none _ (c .before .before .before .before .before .before .before .before .before .before .before .before .before .before .before .before .check-table2 .ensures) (c .before .before .before .before .before .before .before .before .before .before .before .before .before .before .enum-told5 .given .1) in
-    let zero-u8 = c .before .before .before .before .before .before .before .before .before .before .before .before .zero-u8 in
-    let put-job = c .before .before .before .before .before .before .before .before .put-job in
-    room-too-short J (length (args .out .now)) strings rows nodes (zero-u8 .ensures) (put-job .ensures) (c .before .before .refuse5 .ensures .0) (c .before .before .refuse5 .ensures .1) (c .before .before .before .before .if2 .taken)
+    let strings = found-none _ (c₃ .before .before .before .check-strings .ensures) (c₃ .before .enum-told .given .1) in
+    let rows = found-none _ (c₃ .check-table .ensures) (c₂ .before .before .before .enum-told3 .given .1) in
+    let nodes = found-none _ (c₂ .before .before .check-table2 .ensures) (c₂ .enum-told5 .given .1) in
+    let zero-u8 = c₁ .before .before .before .before .zero-u8 in
+    let put-job = c₁ .put-job in
+    room-too-short J (length (args .out .now)) strings rows nodes (zero-u8 .ensures)
+    (put-job .ensures) (c .before .before .refuse5 .ensures .0)
+    (c .before .before .refuse5 .ensures .1) (c .before .before .before .before .if2 .taken)
 
 cast-t30 : tie.Need-cast-t30
 cast-t30 c = search needs
@@ -143,14 +170,18 @@ same-length-6 c = search needs
 
 returns-6 : tie.Need-returns-6
 returns-6 c =
-    let args = c .before .before .before .before .before .before .before .before .before .before .before .before .before .before .before .before .before .before .before .before .before .before .before .before .args in
+    let c₁ = c .before .before .before .before .before .before .before .before in
+    let c₂ = c₁ .before .before .before .before in
+    let c₃ = c₂ .before .before .before in
+    let args = c₃ .before .before .before .before .before .before .before .before .before .args in
     let J = tablesOf (stringTable (args .bytes .now) (args .ends .now)) (args .schema .now) (args .instance .now) in
-    let strings = found-none _ (c .before .before .before .before .before .before .before .before .before .before .before .before .before .before .before .before .before .before .check-strings .ensures) (c .before .before .before .before .before .before .before .before .before .before .before .before .before .before .before .before .enum-told .given .1) in
-    let rows = found-none _ (c .before .before .before .before .before .before .before .before .before .before .before .before .before .before .before .check-table .ensures) (c .before .before .before .before .before .before .before .before .before .before .before .before .before .enum-told3 .given .1) in
-    let nodes = found-none _ (c .before .before .before .before .before .before .before .before .before .before .before .before .check-table2 .ensures) (c .before .before .before .before .before .before .before .before .before .before .enum-told5 .given .1) in
-    let zero-u8 = c .before .before .before .before .before .before .before .before .zero-u8 in
+    let strings = found-none _ (c₃ .before .before .before .check-strings .ensures) (c₃ .before .enum-told .given .1) in
+    let rows = found-none _ (c₃ .check-table .ensures) (c₂ .before .enum-told3 .given .1) in
+    let nodes = found-none _ (c₂ .check-table2 .ensures) (c₁ .before .before .enum-told5 .given .1) in
+    let zero-u8 = c₁ .zero-u8 in
     let put-job = c .before .before .before .before .put-job in
-    text-written J (length (args .out .now)) strings rows nodes (zero-u8 .ensures) (put-job .ensures) (c .before .if1 .left) (c .if2 .left) refl
+    text-written J (length (args .out .now)) strings rows nodes (zero-u8 .ensures)
+    (put-job .ensures) (c .before .if1 .left) (c .if2 .left) refl
 
 pub write-job-spec : {M : Type 1} → statement M
 write-job-spec =

@@ -16,7 +16,11 @@ same-length : tie.Need-same-length
 same-length c = search needs
 
 returns : tie.Need-returns
-returns c = where-holds (one-in _ _ (c .before .before .before .before .before .before .before .before .fits .a .fits) (c .before .before .before .before .before .before .before .before .fits .marked .fits) (sym (c .before .before .before .before .before .before .count .ensures) ∙ c .before .before .before .before .before .if1 .taken) (c .before .before .before .before .if2 .taken)) (c .before .before .gaps .ensures .0)
+returns c =
+    let c₁ = c .before .before .before .before in
+    let c₂ = c₁ .before .before .before .before in
+    where-holds (one-in _ _ (c₂ .fits .a .fits) (c₂ .fits .marked .fits) (sym (c₁ .before .before .count .ensures)
+    ∙ c₁ .before .if1 .taken) (c₁ .if2 .taken)) (c .before .before .gaps .ensures .0)
 
 clear-requires : tie.Need-clear-requires
 clear-requires c κs = search needs
@@ -25,7 +29,12 @@ same-length-2 : tie.Need-same-length-2
 same-length-2 c = search needs
 
 returns-2 : tie.Need-returns-2
-returns-2 c = where-fails (λ o. ⊎-elim (λ x. x .1 .left (one-in-tests _ _ (c .before .before .before .before .before .before .before .fits .a .fits) (c .before .before .before .before .before .before .before .fits .marked .fits) o)) (λ x. x .left (c .before .before .before .before .before .count .ensures ∙ one-in-counts _ _ (c .before .before .before .before .before .before .before .fits .a .fits) (c .before .before .before .before .before .before .before .fits .marked .fits) o)) (c .before .before .before .before .if1 .came)) (c .before .before .clear .ensures .0)
+returns-2 c =
+    let c₁ = c .before .before .before .before in
+    let c₂ = c₁ .before .before .before in
+    where-fails (λ o. ⊎-elim (λ x. x .1 .left (one-in-tests _ _ (c₂ .fits .a .fits) (c₂ .fits .marked .fits) o))
+    (λ x. x .left (c₁ .before .count .ensures ∙ one-in-counts _ _ (c₂ .fits .a .fits) (c₂ .fits .marked .fits) o))
+    (c₁ .if1 .came)) (c .before .before .clear .ensures .0)
 
 pub one-attribute-spec : {M : Type 1} → statement M
 one-attribute-spec =

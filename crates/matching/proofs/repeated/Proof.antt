@@ -15,7 +15,10 @@ same-length : tie.Need-same-length
 same-length c = search needs
 
 returns : tie.Need-returns
-returns c = repeats-none (c .before .before .before .before .before .before .args .m) _ (c .before .before .before .before .before .before .args .k) _ _ (c .before .before .before .before .before .before .fits .a .fits) (c .before .before .before .before .before .before .fits .alone .fits) (c .before .before .before .before .if1 .taken) (c .before .before .clear .ensures .0)
+returns c =
+    let d = c .before .before .before .before .before .before in
+    repeats-none (d .args .m) _ (d .args .k) _ _ (d .fits .a .fits) (d .fits .alone .fits)
+    (c .before .before .before .before .if1 .taken) (c .before .before .clear .ensures .0)
 
 close-requires : tie.Need-close-requires
 close-requires c κs = search needs
@@ -24,7 +27,10 @@ same-length-2 : tie.Need-same-length-2
 same-length-2 c = search needs
 
 returns-2 : tie.Need-returns-2
-returns-2 c = repeats-items (c .before .before .before .before .before .before .before .args .m) _ (c .before .before .before .before .before .before .before .args .k) _ _ (c .before .before .before .before .before .before .before .fits .a .fits) (c .before .before .before .before .before .before .before .fits .alone .fits) (c .if2 .taken) (c .before .before .before .close .ensures .0)
+returns-2 c =
+    let d = c .before .before .before .before .before .before .before in
+    repeats-items (d .args .m) _ (d .args .k) _ _ (d .fits .a .fits) (d .fits .alone .fits)
+    (c .if2 .taken) (c .before .before .before .close .ensures .0)
 
 sub-gaps : tie.Need-sub-gaps
 sub-gaps c = search needs
@@ -46,8 +52,13 @@ same-length-3 c = search needs
 
 returns-3 : tie.Need-returns-3
 returns-3 c =
-    let v = c .before .before .before .before .before .before .before .before .before .before .before .close .last .1 .0 in
-    repeats-beside (c .before .before .before .before .before .before .before .before .before .before .before .before .before .before .before .args .m) _ (c .before .before .before .before .before .before .before .before .before .before .before .before .before .before .before .args .k) _ _ (c .before .before .before .before .before .before .before .before .before .before .before .before .before .before .before .fits .a .fits) (c .before .before .before .before .before .before .before .before .before .before .before .before .before .before .before .fits .alone .fits) (omega arith) (length v - 64) v (c .before .before .before .before .before .before .gaps .last .1 .1 .0) (omega arith) (omega arith) (c .before .before .before .before .before .before .before .before .before .before .before .before .before .if1 .left) (omega arith) (c .before .before .before .before .before .before .before .before .before .before .before .close .ensures .0) (c .before .before .before .before .before .before .gaps .ensures .0) (c .before .before .union .ensures .0)
+    let c₁ = c .before .before .before .before .before .before in
+    let c₂ = c₁ .before .before .before .before .before in
+    let c₃ = c₂ .before .before .before .before in
+    let v = c₂ .close .last .1 .0 in
+    repeats-beside (c₃ .args .m) _ (c₃ .args .k) _ _ (c₃ .fits .a .fits) (c₃ .fits .alone .fits) (omega arith)
+    (length v - 64) v (c₁ .gaps .last .1 .1 .0) (omega arith) (omega arith) (c₂ .before .before .if1 .left)
+    (omega arith) (c₂ .close .ensures .0) (c₁ .gaps .ensures .0) (c .before .before .union .ensures .0)
 
 pub repeated-spec : {M : Type 1} → statement M
 repeated-spec =

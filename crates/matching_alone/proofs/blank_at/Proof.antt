@@ -14,10 +14,18 @@ is-whitespace-requires : tie.Need-is-whitespace-requires
 is-whitespace-requires c κs = search needs
 
 returns : tie.Need-returns
-returns c = (λ e. ap whitespace (sym (c .before .before .text .ensures .holds)) ∙ sym (c .before .is-whitespace .ensures) ∙ c .if1 .taken, λ e. refl)
+returns c = (
+  λ e. ap whitespace (sym (c .before .before .text .ensures .holds))
+      ∙ sym (c .before .is-whitespace .ensures) ∙ c .if1 .taken,
+  λ e. refl,
+)
 
 returns-2 : tie.Need-returns-2
-returns-2 c = (λ e. absurd (omega arith), λ e. absurd (true≢false (sym e ∙ ap whitespace (sym (c .before .before .text .ensures .holds)) ∙ sym (c .before .is-whitespace .ensures) ∙ c .if1 .left)))
+returns-2 c = (
+  λ e. absurd (omega arith),
+  λ e. absurd (true≢false (sym e ∙ ap whitespace (sym (c .before .before .text .ensures .holds))
+      ∙ sym (c .before .is-whitespace .ensures) ∙ c .if1 .left)),
+)
 
 pub blank-at-spec : {M : Type 1} → statement M
 blank-at-spec = tie.close (tie.spec text-requires is-whitespace-requires returns returns-2)

@@ -13,7 +13,10 @@ byte-requires : tie.Need-byte-requires
 byte-requires c κs = search needs
 
 returns : tie.Need-returns
-returns c = not-equal (c .before .before .before .before .before .before .args .datatype) (textOf (stringTable (now (c .before .before .before .before .before .before .args .bytes)) (now (c .before .before .before .before .before .before .args .ends))) (c .before .before .before .before .before .before .args .k)) (now (c .before .before .before .before .before .before .args .own)) (c .before .byte .ensures ∙ c .before .before .before .before .before .before .pre .1) (c .before .before .before .before .before .before .pre .0) (λ z. omega arith)
+returns c =
+    let d = c .before .before .before .before .before .before in
+    not-equal (d .args .datatype) (textOf (stringTable (now (d .args .bytes)) (now (d .args .ends))) (d .args .k))
+    (now (d .args .own)) (c .before .byte .ensures ∙ d .pre .1) (d .pre .0) (λ z. omega arith)
 
 text-requires : tie.Need-text-requires
 text-requires c κs = search needs

@@ -9,7 +9,10 @@ fill-blank-requires : tie.Need-fill-blank-requires
 fill-blank-requires c κs = search needs
 
 cast-fill-rows : tie.Need-cast-fill-rows
-cast-fill-rows c = let few = few-rows (right-size (c .before .before .before .before .before .before .before .before .before .before .before .before .pre .passes .rows)) in omega arith
+cast-fill-rows c =
+    let few = few-rows (right-size (c .before .before .before .before .before
+    .before .before .before .before .before .before .before .pre .passes .rows)) in
+    omega arith
 
 fill-rows-requires : tie.Need-fill-rows-requires
 fill-rows-requires c κs =
@@ -27,7 +30,11 @@ same-length-3 : tie.Need-same-length-3
 same-length-3 c = search needs
 
 returns : tie.Need-returns
-returns c = record { entries = c .before .before .before .before .fill-rows .ensures; blanks = c .before .before .before .before .before .before .before .before .before .fill-blank .ensures }
+returns c =
+    let d = c .before .before .before .before in
+    record { entries = d .fill-rows .ensures; blanks = d .before .before .before .before .before .fill-blank .ensures }
 
 pub fill-spec : {M : Type 1} → statement M
-fill-spec = tie.close (tie.spec fill-blank-requires cast-fill-rows fill-rows-requires same-length same-length-2 same-length-3 returns)
+fill-spec =
+    tie.close (tie.spec fill-blank-requires cast-fill-rows
+    fill-rows-requires same-length same-length-2 same-length-3 returns)

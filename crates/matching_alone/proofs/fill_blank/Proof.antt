@@ -11,7 +11,8 @@ use mathlib.Core.Path.{_≡_, refl}
 use native.Mathlib.Omega.{arith}
 
 abbrev Inv-loop : tie.InvT-loop
-Inv-loop bytes ends blank₀ k₀ blank k = (k ≤ length ends) × (length blank ≡ length blank₀) × BlankTo (stringTable bytes ends) blank k
+Inv-loop bytes ends blank₀ k₀ blank k =
+    (k ≤ length ends) × (length blank ≡ length blank₀) × BlankTo (stringTable bytes ends) blank k
 
 abbrev μ-loop : tie.MeasureT-loop
 μ-loop bytes ends blank₀ k₀ blank k = length ends - k
@@ -38,7 +39,16 @@ loop-less : tie.Need-loop-less Inv-loop μ-loop
 loop-less c = omega arith
 
 loop-again : tie.Need-loop-again Inv-loop μ-loop
-loop-again c = let i = c .before .before .loop .inv in let x = i .0 in let y = i .1 in (omega arith, simp length-set y, blank-more (stringTable (now (c .before .before .before .before .before .before .args .bytes)) (now (c .before .before .before .before .before .before .args .ends))) (c .before .before .loop .blank) (c .before .before .loop .k) (c .blank-at .result) (omega arith) (c .blank-at .ensures) (i .2))
+loop-again c =
+    let a = c .before .before .before .before .before .before .args in
+    let i = c .before .before .loop .inv in
+    let x = i .0 in
+    let y = i .1 in (
+      omega arith,
+      simp length-set y,
+      blank-more (stringTable (now (a .bytes)) (now (a .ends))) (c .before .before .loop .blank)
+          (c .before .before .loop .k) (c .blank-at .result) (omega arith) (c .blank-at .ensures) (i .2),
+    )
 
 same-length : tie.Need-same-length Inv-loop μ-loop
 same-length c = c .before .loop .inv .1

@@ -23,7 +23,9 @@ same-length-2 : tie.Need-same-length-2
 same-length-2 c = search needs
 
 returns-2 : tie.Need-returns-2
-returns-2 c = λ h. let f : ¬ (c .before .before .before .before .before .before .args .except ≡ noRow) = λ z. omega arith in data-but f (c .before .before .fill-neither .ensures (h f))
+returns-2 c = λ h.
+    let f : ¬ (c .before .before .before .before .before .before .args .except ≡ noRow) = λ z. omega arith in
+    data-but f (c .before .before .fill-neither .ensures (h f))
 
 pub fill-data-spec : {M : Type 1} → statement M
 fill-data-spec =

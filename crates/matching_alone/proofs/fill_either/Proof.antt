@@ -42,7 +42,11 @@ add-either-2 : tie.Need-add-either-2 Inv-loop μ-loop
 add-either-2 c = let i = c .before .before .loop .inv in let x = i .0 in omega arith
 
 slice-read-either-2 : tie.Need-slice-read-either-2 Inv-loop μ-loop
-slice-read-either-2 c = let i = c .before .before .before .loop .inv in let x = i .0 in let y = i .1 .size in omega arith
+slice-read-either-2 c =
+    let i = c .before .before .before .loop .inv in
+    let x = i .0 in
+    let y = i .1 .size in
+    omega arith
 
 either-requires : tie.Need-either-requires Inv-loop μ-loop
 either-requires c κs = search needs
@@ -51,7 +55,11 @@ add-alone : tie.Need-add-alone Inv-loop μ-loop
 add-alone c = let i = c .before .before .before .before .loop .inv in let x = i .0 in omega arith
 
 slice-write-alone : tie.Need-slice-write-alone Inv-loop μ-loop
-slice-write-alone c = let i = c .before .before .before .before .loop .inv in let x = i .0 in let y = i .1 .size in omega arith
+slice-write-alone c =
+    let i = c .before .before .before .before .loop .inv in
+    let x = i .0 in
+    let y = i .1 .size in
+    omega arith
 
 add-k : tie.Need-add-k Inv-loop μ-loop
 add-k c = let i = c .before .before .before .before .loop .inv in let x = i .0 in omega arith
@@ -60,7 +68,17 @@ loop-less : tie.Need-loop-less Inv-loop μ-loop
 loop-less c = omega arith
 
 loop-again : tie.Need-loop-again Inv-loop μ-loop
-loop-again c = let i = c .before .before .before .before .loop .inv in let x = i .0 in let y = i .1 .size in (omega arith, row-more _ (omega arith) (rw (row-reads (c .before .before .before .before .before .before .before .before .args .a) (c .before .before .before .before .loop .k) (omega arith) (omega arith) (i .1), row-reads (c .before .before .before .before .before .before .before .before .args .b) (c .before .before .before .before .loop .k) (omega arith) (omega arith) (i .1)) at (c .either .ensures)) (i .1))
+loop-again c =
+    let d = c .before .before .before .before in
+    let i = d .loop .inv in
+    let x = i .0 in
+    let y = i .1 .size in (
+      omega arith,
+      row-more _ (omega arith) (rw (
+        row-reads (d .before .before .before .before .args .a) (d .loop .k) (omega arith) (omega arith) (i .1),
+        row-reads (d .before .before .before .before .args .b) (d .loop .k) (omega arith) (omega arith) (i .1),
+      ) at (c .either .ensures)) (i .1),
+    )
 
 same-length : tie.Need-same-length Inv-loop μ-loop
 same-length c = c .before .loop .inv .1 .size

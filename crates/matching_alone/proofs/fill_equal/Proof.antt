@@ -10,7 +10,8 @@ use Rattle.matching_alone.proofs.fill_equal.Statement.{statement}
 use Rattle.matching_alone.proofs.fill_equal.Tie as tie
 
 abbrev Inv-loop : tie.InvT-loop
-Inv-loop bytes ends leads alone₀ p datatype v own first to k₀ alone k = (k ≤ length ends) × RowOf (EqualTo (stringTable bytes ends) datatype v) alone₀ alone p k
+Inv-loop bytes ends leads alone₀ p datatype v own first to k₀ alone k =
+    (k ≤ length ends) × RowOf (EqualTo (stringTable bytes ends) datatype v) alone₀ alone p k
 
 abbrev μ-loop : tie.MeasureT-loop
 μ-loop bytes ends leads alone₀ p datatype v own first to k₀ alone k = length ends - k
@@ -28,7 +29,10 @@ loop-holds : tie.Need-loop-holds Inv-loop μ-loop
 loop-holds c = (omega arith, row-none _)
 
 equal-at-requires : tie.Need-equal-at-requires Inv-loop μ-loop
-equal-at-requires c κs = (c .before .before .lead .ensures, c .before .before .before .before .before .before .before .before .pre .3 (c .before .loop .k) (omega arith))
+equal-at-requires c κs = (
+  c .before .before .lead .ensures,
+  c .before .before .before .before .before .before .before .before .pre .3 (c .before .loop .k) (omega arith),
+)
 
 add-alone : tie.Need-add-alone Inv-loop μ-loop
 add-alone c = let i = c .before .before .loop .inv in let x = i .0 in omega arith
@@ -43,7 +47,14 @@ loop-less : tie.Need-loop-less Inv-loop μ-loop
 loop-less c = omega arith
 
 loop-again : tie.Need-loop-again Inv-loop μ-loop
-loop-again c = let i = c .before .before .loop .inv in let x = i .0 in let y = i .1 .size in (omega arith, row-more _ (omega arith) (rw (c .before .before .before .before .text .ensures .holds) at (c .equal-at .ensures)) (i .1))
+loop-again c =
+    let i = c .before .before .loop .inv in
+    let x = i .0 in
+    let y = i .1 .size in (
+      omega arith,
+      row-more _ (omega arith)
+          (rw (c .before .before .before .before .text .ensures .holds) at (c .equal-at .ensures)) (i .1),
+    )
 
 same-length : tie.Need-same-length Inv-loop μ-loop
 same-length c = c .before .loop .inv .1 .size

@@ -12,7 +12,8 @@ use Rattle.matching_alone.proofs.fill_leads.Statement.{statement}
 use Rattle.matching_alone.proofs.fill_leads.Tie as tie
 
 abbrev Inv-loop : tie.InvT-loop
-Inv-loop bytes ends leads₀ k₀ leads k = (k ≤ length ends) × (length leads ≡ length leads₀) × LeadsTo (stringTable bytes ends) leads k
+Inv-loop bytes ends leads₀ k₀ leads k =
+    (k ≤ length ends) × (length leads ≡ length leads₀) × LeadsTo (stringTable bytes ends) leads k
 
 abbrev μ-loop : tie.MeasureT-loop
 μ-loop bytes ends leads₀ k₀ leads k = length ends - k
@@ -36,7 +37,17 @@ loop-less : tie.Need-loop-less Inv-loop μ-loop
 loop-less c = omega arith
 
 loop-again : tie.Need-loop-again Inv-loop μ-loop
-loop-again c = let i = c .before .before .before .loop .inv in let x = i .0 in let y = i .1 in (omega arith, simp length-set y, leads-more (stringTable (now (c .before .before .before .before .before .before .before .args .bytes)) (now (c .before .before .before .before .before .before .before .args .ends))) (c .before .before .before .loop .leads) (c .before .before .before .loop .k) (omega arith) (c .lead .ensures) (c .before .text .ensures .holds) (i .2))
+loop-again c =
+    let d = c .before .before .before in
+    let a = d .before .before .before .before .args in
+    let i = d .loop .inv in
+    let x = i .0 in
+    let y = i .1 in (
+      omega arith,
+      simp length-set y,
+      leads-more (stringTable (now (a .bytes)) (now (a .ends))) (d .loop .leads) (d .loop .k)
+          (omega arith) (c .lead .ensures) (c .before .text .ensures .holds) (i .2),
+    )
 
 same-length : tie.Need-same-length Inv-loop μ-loop
 same-length c = c .before .loop .inv .1

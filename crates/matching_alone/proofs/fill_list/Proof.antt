@@ -11,7 +11,8 @@ use Rattle.matching_alone.proofs.fill_list.Statement.{statement}
 use Rattle.matching_alone.proofs.fill_list.Tie as tie
 
 abbrev Inv-loop : tie.InvT-loop
-Inv-loop bytes ends schema alone₀ nothing p a places to k₀ alone k = (k ≤ length ends) × RowOf (TokensTo (stringTable bytes ends) schema a) alone₀ alone p k
+Inv-loop bytes ends schema alone₀ nothing p a places to k₀ alone k =
+    (k ≤ length ends) × RowOf (TokensTo (stringTable bytes ends) schema a) alone₀ alone p k
 
 abbrev μ-loop : tie.MeasureT-loop
 μ-loop bytes ends schema alone₀ nothing p a places to k₀ alone k = length ends - k
@@ -36,26 +37,45 @@ slice-aggregate-list-entry : tie.Need-slice-aggregate-list-entry Inv-loop μ-loo
 slice-aggregate-list-entry c = search needs
 
 list-entry-requires : tie.Need-list-entry-requires Inv-loop μ-loop
-list-entry-requires c κs = list-ready (c .before .before .before .before .before .before .before .before .before .before .before .pre .2) (c .before .before .before .before .find-tokens .ensures)
+list-entry-requires c κs =
+    list-ready (c .before .before .before .before .before .before .before .before .before .before .before .pre .2)
+    (c .before .before .before .before .find-tokens .ensures)
 
 add-alone : tie.Need-add-alone Inv-loop μ-loop
-add-alone c = let i = c .before .before .before .loop .inv in let x = i .0 in let few = c .before .before .before .before .before .before .before .before .before .before .before .before .pre .2 .row .few-strings in omega arith
+add-alone c =
+    let d = c .before .before .before in
+    let i = d .loop .inv in
+    let x = i .0 in
+    let few = d .before .before .before .before .before .before .before .before .before .pre .2 .row .few-strings in
+    omega arith
 
 slice-write-alone : tie.Need-slice-write-alone Inv-loop μ-loop
-slice-write-alone c = let i = c .before .before .before .loop .inv in let x = i .0 in let y = i .1 .size in let few = c .before .before .before .before .before .before .before .before .before .before .before .before .pre .2 .row .few-strings in omega arith
+slice-write-alone c =
+    let d = c .before .before .before in
+    let i = d .loop .inv in
+    let x = i .0 in
+    let y = i .1 .size in
+    let few = d .before .before .before .before .before .before .before .before .before .pre .2 .row .few-strings in
+    omega arith
 
 add-k : tie.Need-add-k Inv-loop μ-loop
-add-k c = let i = c .before .before .before .loop .inv in let x = i .0 in let few = c .before .before .before .before .before .before .before .before .before .before .before .before .pre .2 .row .few-strings in omega arith
+add-k c =
+    let d = c .before .before .before in
+    let i = d .loop .inv in
+    let x = i .0 in
+    let few = d .before .before .before .before .before .before .before .before .before .pre .2 .row .few-strings in
+    omega arith
 
 loop-less : tie.Need-loop-less Inv-loop μ-loop
 loop-less c = omega arith
 
 loop-again : tie.Need-loop-again Inv-loop μ-loop
 loop-again c =
-    let i = c .before .before .before .loop .inv in
+    let d = c .before .before .before in
+    let i = d .loop .inv in
     let x = i .0 in
     let y = i .1 .size in
-    let few = c .before .before .before .before .before .before .before .before .before .before .before .before .pre .2 .row .few-strings in
+    let few = d .before .before .before .before .before .before .before .before .before .pre .2 .row .few-strings in
     (omega arith, row-more _ (omega arith) (c .list-entry .ensures) (i .1))
 
 same-length : tie.Need-same-length Inv-loop μ-loop

@@ -19,7 +19,11 @@ same-length : tie.Need-same-length
 same-length c = search needs
 
 returns : tie.Need-returns
-returns c = λ h l. one-both (now (c .before .before .before .before .before .before .before .before .before .before .args .alone)) (now (c .before .before .before .before .before .before .before .before .before .before .args .nothing)) (c .before .before .before .before .before .before .before .before .before .before .args .a) (c .before .before .before .before .before .before .before .before .before .before .args .b) (c .before .before .before .before .before .before .before .nothing-in .ensures) (c .before .before .before .before .before .before .nothing-in2 .ensures) (omega arith) (omega arith) (c .before .before .fill-either .ensures h l)
+returns c =
+    let d = c .before .before .before .before .before .before in
+    let a = d .before .before .before .before .args in
+    λ h l. one-both (now (a .alone)) (now (a .nothing)) (a .a) (a .b) (d .before .nothing-in .ensures)
+    (d .nothing-in2 .ensures) (omega arith) (omega arith) (c .before .before .fill-either .ensures h l)
 
 fill-either-requires-2 : tie.Need-fill-either-requires-2
 fill-either-requires-2 c κs = search needs
@@ -28,7 +32,11 @@ same-length-2 : tie.Need-same-length-2
 same-length-2 c = search needs
 
 returns-2 : tie.Need-returns-2
-returns-2 c = λ h l. one-second (now (c .before .before .before .before .before .before .before .before .before .before .args .alone)) (now (c .before .before .before .before .before .before .before .before .before .before .args .nothing)) (c .before .before .before .before .before .before .before .before .before .before .args .a) (c .before .before .before .before .before .before .before .before .before .before .args .b) (c .before .before .before .before .before .before .before .nothing-in .ensures) (c .before .before .before .before .before .before .nothing-in2 .ensures) (omega arith) (λ z. omega arith) (c .before .before .fill-either2 .ensures l l)
+returns-2 c =
+    let d = c .before .before .before .before .before .before in
+    let a = d .before .before .before .before .args in
+    λ h l. one-second (now (a .alone)) (now (a .nothing)) (a .a) (a .b) (d .before .nothing-in .ensures)
+    (d .nothing-in2 .ensures) (omega arith) (λ z. omega arith) (c .before .before .fill-either2 .ensures l l)
 
 fill-either-requires-3 : tie.Need-fill-either-requires-3
 fill-either-requires-3 c κs = search needs
@@ -37,7 +45,11 @@ same-length-3 : tie.Need-same-length-3
 same-length-3 c = search needs
 
 returns-3 : tie.Need-returns-3
-returns-3 c = λ h l. one-first (now (c .before .before .before .before .before .before .before .before .before .before .args .alone)) (now (c .before .before .before .before .before .before .before .before .before .before .args .nothing)) (c .before .before .before .before .before .before .before .before .before .before .args .a) (c .before .before .before .before .before .before .before .before .before .before .args .b) (c .before .before .before .before .before .before .before .nothing-in .ensures) (c .before .before .before .before .before .before .nothing-in2 .ensures) (λ z. omega arith) (omega arith) (c .before .before .fill-either3 .ensures h h)
+returns-3 c =
+    let d = c .before .before .before .before .before .before in
+    let a = d .before .before .before .before .args in
+    λ h l. one-first (now (a .alone)) (now (a .nothing)) (a .a) (a .b) (d .before .nothing-in .ensures)
+    (d .nothing-in2 .ensures) (λ z. omega arith) (omega arith) (c .before .before .fill-either3 .ensures h h)
 
 fill-same-requires : tie.Need-fill-same-requires
 fill-same-requires c κs = search needs
@@ -46,7 +58,11 @@ same-length-4 : tie.Need-same-length-4
 same-length-4 c = search needs
 
 returns-4 : tie.Need-returns-4
-returns-4 c = λ h l. one-none (now (c .before .before .before .before .before .before .before .before .before .before .args .alone)) (now (c .before .before .before .before .before .before .before .before .before .before .args .nothing)) (c .before .before .before .before .before .before .before .before .before .before .args .a) (c .before .before .before .before .before .before .before .before .before .before .args .b) (c .before .before .before .before .before .before .before .nothing-in .ensures) (c .before .before .before .before .before .before .nothing-in2 .ensures) (λ z. omega arith) (λ z. omega arith) (c .before .before .fill-same .ensures)
+returns-4 c =
+    let d = c .before .before .before .before .before .before in
+    let a = d .before .before .before .before .args in
+    λ h l. one-none (now (a .alone)) (now (a .nothing)) (a .a) (a .b) (d .before .nothing-in .ensures)
+    (d .nothing-in2 .ensures) (λ z. omega arith) (λ z. omega arith) (c .before .before .fill-same .ensures)
 
 pub fill-one-spec : {M : Type 1} → statement M
 fill-one-spec =

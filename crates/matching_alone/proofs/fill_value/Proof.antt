@@ -31,7 +31,11 @@ same-length : tie.Need-same-length
 same-length c = search needs
 
 returns : tie.Need-returns
-returns c = λ nothing e. made-same (stringTable (now (c .before .before .before .before .before .before .before .before .before .before .before .before .before .before .before .args .bytes)) (now (c .before .before .before .before .before .before .before .before .before .before .before .before .before .before .before .args .ends))) (now (c .before .before .before .before .before .before .before .before .before .before .before .before .before .before .before .args .schema)) (now (c .before .before .before .before .before .before .before .before .before .before .before .before .before .before .before .args .alone)) nothing (c .before .before .before .before .before .before .before .before .before .before .before .before .before .before .before .args .p) e (c .before .before .before .before .before .is-same-row .ensures (c .before .before .before .before .if1 .taken)) (c .before .before .fill-either .ensures)
+returns c =
+    let d = c .before .before .before .before in
+    let a = d .before .before .before .before .before .before .before .before .before .before .before .args in
+    λ nothing e. made-same (stringTable (now (a .bytes)) (now (a .ends))) (now (a .schema)) (now (a .alone))
+    nothing (a .p) e (d .before .is-same-row .ensures (d .if1 .taken)) (c .before .before .fill-either .ensures)
 
 mul-noted : tie.Need-mul-noted
 mul-noted c = search needs
@@ -46,7 +50,11 @@ same-length-2 : tie.Need-same-length-2
 same-length-2 c = search needs
 
 returns-2 : tie.Need-returns-2
-returns-2 c = λ nothing e. made-value (stringTable (now (c .before .before .before .before .before .before .before .before .before .before .before .before .before .before .before .args .bytes)) (now (c .before .before .before .before .before .before .before .before .before .before .before .before .before .before .before .args .ends))) (now (c .before .before .before .before .before .before .before .before .before .before .before .before .before .before .before .args .schema)) (now (c .before .before .before .before .before .before .before .before .before .before .before .before .before .before .before .args .alone)) nothing (c .before .before .before .before .before .before .before .before .before .before .before .before .before .before .before .args .p) (c .before .before .before .before .before .before .before .before .before .field-a .ensures) (c .before .before .before .before .before .before .before .before .field-b .ensures) e (c .before .before .fill-equal .ensures)
+returns-2 c =
+    let d = c .before .before .before .before .before .before .before .before in
+    let a = d .before .before .before .before .before .before .before .args in
+    λ nothing e. made-value (stringTable (now (a .bytes)) (now (a .ends))) (now (a .schema)) (now (a .alone))
+    nothing (a .p) (d .before .field-a .ensures) (d .field-b .ensures) e (c .before .before .fill-equal .ensures)
 
 pub fill-value-spec : {M : Type 1} → statement M
 fill-value-spec =

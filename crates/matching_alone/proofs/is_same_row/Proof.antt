@@ -32,7 +32,13 @@ field-b-requires-2 : tie.Need-field-b-requires-2
 field-b-requires-2 c κs = search needs
 
 returns-4 : tie.Need-returns-4
-returns-4 c = λ e. record { before = omega arith; is-value = omega arith; same-datatype = omega arith; same-string = sym (c .before .field-b .ensures) ∙ eqb-true _ _ e ∙ c .field-b2 .ensures }
+returns-4 c =
+    λ e. record {
+      before = omega arith;
+      is-value = omega arith;
+      same-datatype = omega arith;
+      same-string = sym (c .before .field-b .ensures) ∙ eqb-true _ _ e ∙ c .field-b2 .ensures;
+    }
 
 pub is-same-row-spec : {M : Type 1} → statement M
 is-same-row-spec =

@@ -11,19 +11,31 @@ same-string-requires : tie.Need-same-string-requires
 same-string-requires c κs = search needs
 
 returns : tie.Need-returns
-returns c = yes-one (said-yes (c .before .same-string .ensures) (c .if2 .taken)) (by-string (c .before .before .before .before .before .args .datatype) (now (c .before .before .before .before .before .args .a)) (now (c .before .before .before .before .before .args .b)) (omega arith))
+returns c =
+    let a = c .before .before .before .before .before .args in
+    yes-one (said-yes (c .before .same-string .ensures) (c .if2 .taken))
+    (by-string (a .datatype) (now (a .a)) (now (a .b)) (omega arith))
 
 returns-2 : tie.Need-returns-2
-returns-2 c = no-one (said-no (c .before .same-string .ensures) (c .if2 .left)) (by-string (c .before .before .before .before .before .args .datatype) (now (c .before .before .before .before .before .args .a)) (now (c .before .before .before .before .before .args .b)) (omega arith))
+returns-2 c =
+    let a = c .before .before .before .before .before .args in
+    no-one (said-no (c .before .same-string .ensures) (c .if2 .left))
+    (by-string (a .datatype) (now (a .a)) (now (a .b)) (omega arith))
 
 same-token-requires : tie.Need-same-token-requires
 same-token-requires c κs = search needs
 
 returns-3 : tie.Need-returns-3
-returns-3 c = yes-one (said-yes (c .before .same-token .ensures) (c .if3 .taken)) (by-token (c .before .before .before .before .before .args .datatype) (now (c .before .before .before .before .before .args .a)) (now (c .before .before .before .before .before .args .b)) (λ e. omega arith))
+returns-3 c =
+    let a = c .before .before .before .before .before .args in
+    yes-one (said-yes (c .before .same-token .ensures) (c .if3 .taken))
+    (by-token (a .datatype) (now (a .a)) (now (a .b)) (λ e. omega arith))
 
 returns-4 : tie.Need-returns-4
-returns-4 c = no-one (said-no (c .before .same-token .ensures) (c .if3 .left)) (by-token (c .before .before .before .before .before .args .datatype) (now (c .before .before .before .before .before .args .a)) (now (c .before .before .before .before .before .args .b)) (λ e. omega arith))
+returns-4 c =
+    let a = c .before .before .before .before .before .args in
+    no-one (said-no (c .before .same-token .ensures) (c .if3 .left))
+    (by-token (a .datatype) (now (a .a)) (now (a .b)) (λ e. omega arith))
 
 pub same-value-spec : {M : Type 1} → statement M
 same-value-spec =

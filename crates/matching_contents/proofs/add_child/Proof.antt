@@ -21,8 +21,10 @@ same-length : tie.Need-same-length
 same-length c = search needs
 
 returns : tie.Need-returns
-returns c = let s = c .before .before .before .before .before .before .before .before .args in
-    let z : isChild (now (s .instance)) (s .e) (s .r) ≡ true = sym (c .before .before .before .before .before .is-child .ensures) ∙ c .before .before .before .before .if1 .taken in
+returns c =
+    let d = c .before .before .before .before in
+    let s = d .before .before .before .before .args in
+    let z : isChild (now (s .instance)) (s .e) (s .r) ≡ true = sym (d .before .is-child .ensures) ∙ d .if1 .taken in
     (rw z, c .before .before .put-u32 .ensures ∙ rw z)
 
 returns-2 : tie.Need-returns-2

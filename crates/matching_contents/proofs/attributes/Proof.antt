@@ -27,7 +27,9 @@ is-attribute-requires : tie.Need-is-attribute-requires Inv-loop μ-loop
 is-attribute-requires c κs = search needs
 
 returns : tie.Need-returns Inv-loop μ-loop
-returns c = counted-last _ _ _ (c .before .is-attribute .ensures) (c .if1 .taken) (omega arith) (c .before .before .before .loop .inv .1)
+returns c =
+    counted-last _ _ _ (c .before .is-attribute .ensures) (c .if1 .taken)
+    (omega arith) (c .before .before .before .loop .inv .1)
 
 add-x : tie.Need-add-x Inv-loop μ-loop
 add-x c = search needs
@@ -36,7 +38,12 @@ loop-less : tie.Need-loop-less Inv-loop μ-loop
 loop-less c = search needs
 
 loop-again : tie.Need-loop-again Inv-loop μ-loop
-loop-again c = let s = c .before .before .before .before .before .args in (omega arith, counted-more (now (s .instance)) (s .e) _ (c .before .is-attribute .ensures) (c .if1 .left) (c .before .before .before .loop .inv .1))
+loop-again c =
+    let s = c .before .before .before .before .before .args in (
+      omega arith,
+      counted-more (now (s .instance)) (s .e) _ (c .before .is-attribute .ensures)
+          (c .if1 .left) (c .before .before .before .loop .inv .1),
+    )
 
 returns-2 : tie.Need-returns-2 Inv-loop μ-loop
 returns-2 c = counted-many _ _ _ (omega arith) (c .before .loop .inv .1)

@@ -39,10 +39,16 @@ loop-less c = search needs
 
 loop-again : tie.Need-loop-again Inv-loop μ-loop
 loop-again c =
-    (omega arith, collects-more {b = eqb (c .before .kind .result) (c .before .before .before .before .before .before .before .args .kind)} (c .before .before .before .before .loop .inv .1) (rw (c .before .kind .ensures, c .before .before .word .ensures)) (c .add-if .ensures))
+    let d = c .before .before .before .before in (
+      omega arith,
+      collects-more {b = eqb (c .before .kind .result) (d .before .before .before .args .kind)} (d .loop .inv .1)
+          (rw (c .before .kind .ensures, c .before .before .word .ensures)) (c .add-if .ensures),
+    )
 
 returns : tie.Need-returns Inv-loop μ-loop
-returns c = let e : c .before .loop .k ≡ c .before .before .before .before .args .n = omega arith in rw e at (c .before .loop .inv .1)
+returns c =
+    let e : c .before .loop .k ≡ c .before .before .before .before .args .n = omega arith in
+    rw e at (c .before .loop .inv .1)
 
 pub of-kind-spec : {M : Type 1} → statement M
 of-kind-spec =

@@ -40,14 +40,21 @@ loop-less : tie.Need-loop-less Inv-loop μ-loop
 loop-less c = search needs
 
 loop-again : tie.Need-loop-again Inv-loop μ-loop
-loop-again c = let t = now (c .before .before .before .before .before .before .before .before .before .before .before .args .instance) in
-    (omega arith, itemized-more t (c .before .before .put-u32 .ensures) (c .before .before .before .before .item-word .ensures ∙ ap (itemWord t) (c .before .before .before .before .before .word .ensures)) (c .before .before .before .before .before .before .before .before .loop .inv .1))
+loop-again c =
+    let d = c .before .before .before .before in
+    let t = now (d .before .before .before .before .before .before .before .args .instance) in (
+      omega arith,
+      itemized-more t (c .before .before .put-u32 .ensures) (d .item-word .ensures
+          ∙ ap (itemWord t) (d .before .word .ensures)) (d .before .before .before .before .loop .inv .1),
+    )
 
 same-length : tie.Need-same-length Inv-loop μ-loop
 same-length c = search needs
 
 returns : tie.Need-returns Inv-loop μ-loop
-returns c = let e : c .before .loop .k ≡ c .before .before .before .before .args .n = omega arith in rw e at (c .before .loop .inv .1)
+returns c =
+    let e : c .before .loop .k ≡ c .before .before .before .before .args .n = omega arith in
+    rw e at (c .before .loop .inv .1)
 
 pub to-items-spec : {M : Type 1} → statement M
 to-items-spec =

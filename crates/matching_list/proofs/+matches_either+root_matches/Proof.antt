@@ -4,7 +4,8 @@ use mathlib.Core.Path.{refl, sym, _∙_, ap}
 use lib.ListN.{getD}
 use denote.Ref.{now}
 use borrow.Author.Needs.{needs}
-use Rattle.matching_list.proofs.Root.{tells-ref, tells-first, tells-second, first-less, second-less, first-asked, second-asked, tells-nothing}
+use Rattle.matching_list.proofs.Root.{tells-ref, tells-first, tells-second, first-less}
+use Rattle.matching_list.proofs.Root.{second-less, first-asked, second-asked, tells-nothing}
 use Prim.Native.Nat.{ℕ, _+_, _*_, _<_}
 use borrow.Fn.Kinds.{In}
 use borrow.Fn.PlainCycle.{Measures, is, falls, and}
@@ -87,8 +88,12 @@ matches-either-root-matches-requires t c κs =
     let a = c .before .before .before .before .args in
     let r = c .before .before .before .before .pre in
     let m = r .0 in
-    let l = first-less (now (a .schema)) (now (a .pairs)) (a .p) (r .1 .0) (c .before .field-a .ensures) (c .field-b .ensures) (r .1 .1) in
-    (omega arith, first-asked (now (a .schema)) (now (a .pairs)) (a .p) (r .1 .0) (c .before .field-a .ensures) (c .field-b .ensures) (r .1 .1))
+    let l = first-less (now (a .schema)) (now (a .pairs)) (a .p) (r .1 .0)
+    (c .before .field-a .ensures) (c .field-b .ensures) (r .1 .1) in (
+      omega arith,
+      first-asked (now (a .schema)) (now (a .pairs)) (a .p) (r .1 .0)
+          (c .before .field-a .ensures) (c .field-b .ensures) (r .1 .1),
+    )
 
 matches-either-returns : (t : ℕ) → matches-either-lts.Need-returns (
   field-a-reads.Asked,
@@ -100,7 +105,9 @@ matches-either-returns : (t : ℕ) → matches-either-lts.Need-returns (
 ) (matches-either-at t) matches-either.Post
 matches-either-returns t c =
     let a = c .before .before .before .before .before .before .args in
-    tells-first (now (a .schema)) (now (a .pairs)) (a .p) (c .before .before .before .before .before .before .pre .1 .0) (c .before .before .before .field-a .ensures) (c .before .before .field-b .ensures) _ (c .if1 .taken) (c .before .root-matches .ensures)
+    tells-first (now (a .schema)) (now (a .pairs)) (a .p) (c .before .before .before .before .before .before .pre .1 .0)
+    (c .before .before .before .field-a .ensures) (c .before .before .field-b .ensures)
+    _ (c .if1 .taken) (c .before .root-matches .ensures)
 
 matches-either-root-matches-requires-2 : (t : ℕ) → matches-either-lts.Need-root-matches-requires-2 (
   field-a-reads.Asked,
@@ -114,8 +121,12 @@ matches-either-root-matches-requires-2 t c κs =
     let a = c .before .before .before .before .before .before .args in
     let r = c .before .before .before .before .before .before .pre in
     let m = r .0 in
-    let l = second-less (now (a .schema)) (now (a .pairs)) (a .p) (r .1 .0) (c .before .before .before .field-a .ensures) (c .before .before .field-b .ensures) (r .1 .1) in
-    (omega arith, second-asked (now (a .schema)) (now (a .pairs)) (a .p) (r .1 .0) (c .before .before .before .field-a .ensures) (c .before .before .field-b .ensures) (r .1 .1))
+    let l = second-less (now (a .schema)) (now (a .pairs)) (a .p) (r .1 .0)
+    (c .before .before .before .field-a .ensures) (c .before .before .field-b .ensures) (r .1 .1) in (
+      omega arith,
+      second-asked (now (a .schema)) (now (a .pairs)) (a .p) (r .1 .0)
+          (c .before .before .before .field-a .ensures) (c .before .before .field-b .ensures) (r .1 .1),
+    )
 
 matches-either-returns-2 : (t : ℕ) → matches-either-lts.Need-returns-2 (
   field-a-reads.Asked,
@@ -126,8 +137,11 @@ matches-either-returns-2 : (t : ℕ) → matches-either-lts.Need-returns-2 (
   root-matches.Post,
 ) (matches-either-at t) matches-either.Post
 matches-either-returns-2 t c =
-    let a = c .before .before .before .before .before .before .before .args in
-    tells-second (now (a .schema)) (now (a .pairs)) (a .p) (c .before .before .before .before .before .before .before .pre .1 .0) (c .before .before .before .before .field-a .ensures) (c .before .before .before .field-b .ensures) _ (c .root-matches2 .result) (c .before .if1 .left) (c .before .before .root-matches .ensures) (c .root-matches2 .ensures)
+    let d = c .before .before .before in
+    let a = d .before .before .before .before .args in
+    tells-second (now (a .schema)) (now (a .pairs)) (a .p) (d .before .before .before .before .pre .1 .0)
+    (d .before .field-a .ensures) (d .field-b .ensures) _ (c .root-matches2 .result)
+    (c .before .if1 .left) (c .before .before .root-matches .ensures) (c .root-matches2 .ensures)
 
 root-matches-kind-requires : (t : ℕ) → root-matches-lts.Need-kind-requires (
   kind-reads.Asked,
@@ -187,7 +201,9 @@ root-matches-matches-either-requires : (t : ℕ) → root-matches-lts.Need-match
   matches-either-below t,
   matches-either.Post,
 ) (root-matches-at t) root-matches.Post
-root-matches-matches-either-requires t c κs = let q = c .before .before .before .before .pre .0 in (omega arith, (sym (c .before .kind .ensures) ∙ c .match .keys2, c .before .before .before .before .pre .1))
+root-matches-matches-either-requires t c κs =
+    let q = c .before .before .before .before .pre .0 in
+    (omega arith, (sym (c .before .kind .ensures) ∙ c .match .keys2, c .before .before .before .before .pre .1))
 
 root-matches-returns : (t : ℕ) → root-matches-lts.Need-returns (
   kind-reads.Asked,
@@ -199,7 +215,11 @@ root-matches-returns : (t : ℕ) → root-matches-lts.Need-returns (
   matches-either-below t,
   matches-either.Post,
 ) (root-matches-at t) root-matches.Post
-root-matches-returns t c = tells-ref (now (c .before .before .before .before .before .before .args .schema)) (now (c .before .before .before .before .before .before .args .pairs)) (c .before .before .before .before .before .before .args .p) _ (sym (c .before .before .before .kind .ensures) ∙ c .before .before .match .keys1) (c .byte .ensures ∙ ap (λ (i : ℕ). getD (now (c .before .before .before .before .before .before .args .pairs)) i 0) (c .before .field-a .ensures)) refl
+root-matches-returns t c =
+    let a = c .before .before .before .before .before .before .args in
+    tells-ref (now (a .schema)) (now (a .pairs)) (a .p) _
+    (sym (c .before .before .before .kind .ensures) ∙ c .before .before .match .keys1)
+    (c .byte .ensures ∙ ap (λ (i : ℕ). getD (now (a .pairs)) i 0) (c .before .field-a .ensures)) refl
 
 root-matches-returns-2 : (t : ℕ) → root-matches-lts.Need-returns-2 (
   kind-reads.Asked,
@@ -223,7 +243,10 @@ root-matches-returns-3 : (t : ℕ) → root-matches-lts.Need-returns-3 (
   matches-either-below t,
   matches-either.Post,
 ) (root-matches-at t) root-matches.Post
-root-matches-returns-3 t c = tells-nothing (now (c .before .before .before .before .args .schema)) (now (c .before .before .before .before .args .pairs)) (c .before .before .before .before .args .p) (λ e. c .match .rest .0 .1 (c .before .kind .ensures ∙ e)) (λ e. c .match .rest .1 (c .before .kind .ensures ∙ e))
+root-matches-returns-3 t c =
+    tells-nothing (now (c .before .before .before .before .args .schema))
+    (now (c .before .before .before .before .args .pairs)) (c .before .before .before .before .args .p)
+    (λ e. c .match .rest .0 .1 (c .before .kind .ensures ∙ e)) (λ e. c .match .rest .1 (c .before .kind .ensures ∙ e))
 
 pub +matches-either+root-matches-spec : {M : Type 1} → statement M
 +matches-either+root-matches-spec =

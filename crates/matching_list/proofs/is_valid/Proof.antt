@@ -17,10 +17,17 @@ slice-aggregate-valid : tie.Need-slice-aggregate-valid
 slice-aggregate-valid c = sym (c .before .pairs2 .given)
 
 valid-requires : tie.Need-valid-requires
-valid-requires c κs = record { strings = _; instance = _; pass = c .before .before .before .before .before .before .before .before .pre; right = c .before .before .pair-table .ensures }
+valid-requires c κs = record {
+  strings = _;
+  instance = _;
+  pass = c .before .before .before .before .before .before .before .before .pre;
+  right = c .before .before .pair-table .ensures;
+}
 
 returns : tie.Need-returns
-returns c = c .valid .ensures .tells _ _ (c .before .before .before .before .before .before .before .before .before .pre) (c .before .before .before .pair-table .ensures)
+returns c =
+    c .valid .ensures .tells _ _ (c .before .before .before .before .before .before .before .before .before .pre)
+    (c .before .before .before .pair-table .ensures)
 
 pub is-valid-spec : {M : Type 1} → statement M
 is-valid-spec =

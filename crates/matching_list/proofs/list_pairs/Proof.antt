@@ -17,7 +17,9 @@ same-length : tie.Need-same-length
 same-length c = search needs
 
 returns : tie.Need-returns
-returns c = kept-list (c .before .before .before .before .before .before .before .before .before .before .zero-u32 .ensures) (c .before .before .before .before .before .before .put-rows .ensures) (c .before .before .keep-listed .ensures)
+returns c =
+    kept-list (c .before .before .before .before .before .before .before .before .before .before .zero-u32 .ensures)
+    (c .before .before .before .before .before .before .put-rows .ensures) (c .before .before .keep-listed .ensures)
 
 pub list-pairs-spec : {M : Type 1} → statement M
 list-pairs-spec =

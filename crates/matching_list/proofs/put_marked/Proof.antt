@@ -23,10 +23,22 @@ same-length : tie.Need-same-length
 same-length c = search needs
 
 returns : tie.Need-returns
-returns c = let k = c .before .before .put-pair .ensures .number in (put-as (sym (marked (now (c .before .before .before .before .before .before .before .before .args .table)) (c .before .before .before .before .before .before .before .before .args .e) (c .before .before .before .before .before .before .before .before .args .d) (sym (c .before .before .before .before .before .byte .ensures) ∙ c .before .before .before .before .if1 .taken))) (c .before .before .put-pair .ensures), omega arith)
+returns c =
+    let d = c .before .before .before .before in
+    let a = d .before .before .before .before .args in
+    let k = c .before .before .put-pair .ensures .number in (
+      put-as (sym (marked (now (a .table)) (a .e) (a .d) (sym (d .before .byte .ensures) ∙ d .if1 .taken)))
+          (c .before .before .put-pair .ensures),
+      omega arith,
+    )
 
 returns-2 : tie.Need-returns-2
-returns-2 c = (put-as (sym (unmarked (now (c .before .before .before .before .args .table)) (c .before .before .before .before .args .e) (c .before .before .before .before .args .d) (λ z. c .if1 .left (c .before .byte .ensures ∙ z)))) (put-none _ _), omega arith)
+returns-2 c =
+    let a = c .before .before .before .before .args in (
+      put-as (sym (unmarked (now (a .table)) (a .e) (a .d) (λ z. c .if1 .left (c .before .byte .ensures ∙ z))))
+          (put-none _ _),
+      omega arith,
+    )
 
 pub put-marked-spec : {M : Type 1} → statement M
 put-marked-spec =

@@ -11,7 +11,8 @@ use lib.ListN.{length}
 use borrow.Author.Needs.{needs}
 
 abbrev Inv-loop : tie.InvT-loop
-Inv-loop table definitions e list₀ n k₀ m₀ list k m = (k ≤ length definitions) × (m ≤ n + k) × PutPairs list₀ n (rowPairs table definitions e k) list m
+Inv-loop table definitions e list₀ n k₀ m₀ list k m =
+    (k ≤ length definitions) × (m ≤ n + k) × PutPairs list₀ n (rowPairs table definitions e k) list m
 
 abbrev μ-loop : tie.MeasureT-loop
 μ-loop table definitions e list₀ n k₀ m₀ list k m = length definitions - k
@@ -33,22 +34,29 @@ loop-less c = omega arith
 
 loop-again : tie.Need-loop-again Inv-loop μ-loop
 loop-again c =
-    let i = c .before .before .before .before .before .before .loop .inv in
+    let d = c .before .before .before .before .before .before in
+    let a = d .before .before .before .before .args in
+    let i = d .loop .inv in
     let x = i .0 in
     let y = i .1 in
-    let z = c .before .before .put-marked .ensures .1 in
-    (omega arith, omega arith, row-more (now (c .before .before .before .before .before .before .before .before .before .before .args .table)) (now (c .before .before .before .before .before .before .before .before .before .before .args .definitions)) (c .before .before .before .before .before .before .before .before .before .before .args .e) (c .before .before .before .before .before .before .loop .k) (i .2) (rw (← c .before .before .before .before .word .ensures) (c .before .before .put-marked .ensures .0)))
+    let z = c .before .before .put-marked .ensures .1 in (
+      omega arith,
+      omega arith,
+      row-more (now (a .table)) (now (a .definitions)) (a .e) (d .loop .k) (i .2)
+          (rw (← c .before .before .before .before .word .ensures) (c .before .before .put-marked .ensures .0)),
+    )
 
 same-length : tie.Need-same-length Inv-loop μ-loop
 same-length c = put-length (c .before .loop .inv .2)
 
 returns : tie.Need-returns Inv-loop μ-loop
 returns c =
+    let a = c .before .before .before .before .before .args in
     let i = c .before .loop .inv in
     let x = i .0 in
     let y = i .1 in
-    let z : c .before .loop .k ≡ length (now (c .before .before .before .before .before .args .definitions)) = omega arith in
-    (put-as (ap (rowPairs (now (c .before .before .before .before .before .args .table)) (now (c .before .before .before .before .before .args .definitions)) (c .before .before .before .before .before .args .e)) z) (i .2), omega arith)
+    let z : c .before .loop .k ≡ length (now (a .definitions)) = omega arith in
+    (put-as (ap (rowPairs (now (a .table)) (now (a .definitions)) (a .e)) z) (i .2), omega arith)
 
 pub put-row-spec : {M : Type 1} → statement M
 put-row-spec =

@@ -17,10 +17,15 @@ field-a-requires : tie.Need-field-a-requires
 field-a-requires c κs = search needs
 
 root-matches-requires : tie.Need-root-matches-requires
-root-matches-requires c κs = start-asked (now (c .before .before .before .args .schema)) (now (c .before .before .before .args .pairs)) _ (c .field-a .ensures) (c .before .before .before .pre)
+root-matches-requires c κs =
+    start-asked (now (c .before .before .before .args .schema))
+    (now (c .before .before .before .args .pairs)) _ (c .field-a .ensures) (c .before .before .before .pre)
 
 returns : tie.Need-returns
-returns c = tells-valid (now (c .before .before .before .before .args .schema)) (now (c .before .before .before .before .args .pairs)) _ (c .before .field-a .ensures) (c .root-matches .result) (c .root-matches .ensures)
+returns c =
+    tells-valid (now (c .before .before .before .before .args .schema))
+    (now (c .before .before .before .before .args .pairs)) _
+    (c .before .field-a .ensures) (c .root-matches .result) (c .root-matches .ensures)
 
 pub valid-spec : {M : Type 1} → statement M
 valid-spec =

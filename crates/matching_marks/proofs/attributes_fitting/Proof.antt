@@ -10,7 +10,8 @@ use mathlib.Core.Path.{_≡_}
 use native.Mathlib.Omega.{arith}
 
 abbrev Inv-loop : tie.InvT-loop
-Inv-loop instance alone nothing blank e attributes q set₀ x₀ set x = Collects (attributeFits instance alone nothing blank e q) x set × (x ≤ attributes)
+Inv-loop instance alone nothing blank e attributes q set₀ x₀ set x =
+    Collects (attributeFits instance alone nothing blank e q) x set × (x ≤ attributes)
 
 abbrev μ-loop : tie.MeasureT-loop
 μ-loop instance alone nothing blank e attributes q set₀ x₀ set x = attributes - x
@@ -34,10 +35,17 @@ loop-less : tie.Need-loop-less Inv-loop μ-loop
 loop-less c = omega arith
 
 loop-again : tie.Need-loop-again Inv-loop μ-loop
-loop-again c = (collects-more (c .before .before .before .before .loop .inv .0) (rw (c .before .before .attribute-word .ensures) at (c .before .value-fits .ensures)) (c .add-if .ensures), omega arith)
+loop-again c = (
+  collects-more (c .before .before .before .before .loop .inv .0)
+      (rw (c .before .before .attribute-word .ensures) at (c .before .value-fits .ensures)) (c .add-if .ensures),
+  omega arith,
+)
 
 returns : tie.Need-returns Inv-loop μ-loop
-returns c = let i = c .before .loop .inv in let e : c .before .loop .x ≡ c .before .before .before .before .before .before .args .attributes = omega arith in rw e at (i .0)
+returns c =
+    let i = c .before .loop .inv in
+    let e : c .before .loop .x ≡ c .before .before .before .before .before .before .args .attributes = omega arith in
+    rw e at (i .0)
 
 pub attributes-fitting-spec : {M : Type 1} → statement M
 attributes-fitting-spec =

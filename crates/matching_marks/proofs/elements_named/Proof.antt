@@ -13,7 +13,8 @@ use mathlib.Core.Path.{ap, ap₂, _≡_}
 use native.Mathlib.Omega.{arith}
 
 abbrev Inv-loop : tie.InvT-loop
-Inv-loop schema instance items texts c set₀ k₀ set k = Collects (elementNamed schema instance items texts c) k set × (k ≤ length items)
+Inv-loop schema instance items texts c set₀ k₀ set k =
+    Collects (elementNamed schema instance items texts c) k set × (k ≤ length items)
 
 abbrev μ-loop : tie.MeasureT-loop
 μ-loop schema instance items texts c set₀ k₀ set k = length items - k
@@ -46,10 +47,18 @@ loop-less : tie.Need-loop-less Inv-loop μ-loop
 loop-less c = omega arith
 
 loop-again : tie.Need-loop-again Inv-loop μ-loop
-loop-again c = (collects-more (c .before .before .before .before .before .loop .inv .0) (rw (c .before .before .before .word .ensures) at (ap₂ _&&_ (ap not (c .before .before .has .ensures)) (c .before .row-named .ensures))) (c .add-if .ensures), omega arith)
+loop-again c = (
+  collects-more (c .before .before .before .before .before .loop .inv .0)
+      (rw (c .before .before .before .word .ensures) at (ap₂ _&&_
+      (ap not (c .before .before .has .ensures)) (c .before .row-named .ensures))) (c .add-if .ensures),
+  omega arith,
+)
 
 returns : tie.Need-returns Inv-loop μ-loop
-returns c = let i = c .before .loop .inv in let e : c .before .loop .k ≡ length (now (c .before .before .before .before .before .args .items)) = omega arith in rw e at (i .0)
+returns c =
+    let i = c .before .loop .inv in
+    let e : c .before .loop .k ≡ length (now (c .before .before .before .before .before .args .items)) = omega arith in
+    rw e at (i .0)
 
 pub elements-named-spec : {M : Type 1} → statement M
 elements-named-spec =

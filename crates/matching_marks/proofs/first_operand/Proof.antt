@@ -14,13 +14,20 @@ field-a-requires : tie.Need-field-a-requires
 field-a-requires c κs = search needs
 
 returns : tie.Need-returns
-returns c = c .field-a .ensures ∙ sym (first-is (now (c .before .before .before .before .before .args .schema)) (c .before .before .before .before .before .args .p) (omega (arith, c .before .before .before .kind .ensures)) (omega (arith, c .before .before .before .kind .ensures)))
+returns c =
+    let d = c .before .before .before in
+    c .field-a .ensures ∙ sym (first-is (now (d .before .before .args .schema))
+    (d .before .before .args .p) (omega (arith, d .kind .ensures)) (omega (arith, d .kind .ensures)))
 
 returns-2 : tie.Need-returns-2
-returns-2 c = sym (first-none (now (c .before .before .before .args .schema)) (c .before .before .before .args .p) (λ h l. omega (arith, c .before .kind .ensures)))
+returns-2 c =
+    let a = c .before .before .before .args in
+    sym (first-none (now (a .schema)) (a .p) (λ h l. omega (arith, c .before .kind .ensures)))
 
 returns-3 : tie.Need-returns-3
-returns-3 c = sym (first-none (now (c .before .before .before .before .args .schema)) (c .before .before .before .before .args .p) (λ h l. omega (arith, c .before .before .kind .ensures)))
+returns-3 c =
+    let a = c .before .before .before .before .args in
+    sym (first-none (now (a .schema)) (a .p) (λ h l. omega (arith, c .before .before .kind .ensures)))
 
 pub first-operand-spec : {M : Type 1} → statement M
 first-operand-spec =

@@ -28,19 +28,40 @@ strings-alone-requires : tie.Need-strings-alone-requires
 strings-alone-requires c κs = search needs
 
 returns : tie.Need-returns
-returns c = λ T g row. leaf-attribute g (c .before .before .before .before .before .before .before .before .before .before .before .before .before .args .p) row (sym (c .before .before .before .kind .ensures) ∙ c .before .before .match .keys1) (c .before .before .before .before .before .field-a .ensures) (c .before .before .before .before .field-b .ensures) (c .before .attributes-named .ensures) (c .attributes-fitting .ensures)
+returns c =
+    let d = c .before .before .before in
+    λ T g row.
+    leaf-attribute g (d .before .before .before .before .before .before .before .before .before .before .args .p)
+    row (sym (d .kind .ensures) ∙ c .before .before .match .keys1) (d .before .before .field-a .ensures)
+    (d .before .field-b .ensures) (c .before .attributes-named .ensures) (c .attributes-fitting .ensures)
 
 returns-2 : tie.Need-returns-2
-returns-2 c = λ T g row. leaf-ref g (c .before .before .before .before .before .before .before .before .before .before .before .before .args .p) row (sym (c .before .before .kind .ensures) ∙ c .before .match .keys2) (rw (c .before .before .before .before .field-a .ensures) at (c .elements-paired .ensures))
+returns-2 c =
+    let d = c .before .before .before .before in
+    λ T g row. leaf-ref g (d .before .before .before .before .before .before .before .before .args .p)
+    row (sym (c .before .before .kind .ensures) ∙ c .before .match .keys2)
+    (rw (d .field-a .ensures) at (c .elements-paired .ensures))
 
 returns-3 : tie.Need-returns-3
-returns-3 c = λ T g row. leaf-strings g (c .before .before .before .before .before .before .before .before .before .before .before .before .before .before .args .p) row (omega (arith, c .before .before .before .before .kind .ensures)) (omega (arith, c .before .before .before .before .kind .ensures)) (c .strings-alone .ensures)
+returns-3 c =
+    let d = c .before .before .before .before in
+    λ T g row.
+    leaf-strings g (d .before .before .before .before .before .before .before .before .before .before .args .p)
+    row (omega (arith, d .kind .ensures)) (omega (arith, d .kind .ensures)) (c .strings-alone .ensures)
 
 returns-4 : tie.Need-returns-4
-returns-4 c = λ T g row. leaf-none g (c .before .before .before .before .before .before .before .before .before .before .before .before .args .p) row (λ h l. omega (arith, c .before .before .kind .ensures)) (λ z. omega (arith, c .before .before .kind .ensures)) (λ z. omega (arith, c .before .before .kind .ensures))
+returns-4 c =
+    λ T g row. leaf-none g
+    (c .before .before .before .before .before .before .before .before .before .before .before .before .args .p)
+    row (λ h l. omega (arith, c .before .before .kind .ensures))
+    (λ z. omega (arith, c .before .before .kind .ensures)) (λ z. omega (arith, c .before .before .kind .ensures))
 
 returns-5 : tie.Need-returns-5
-returns-5 c = λ T g row. leaf-none g (c .before .before .before .before .before .before .before .before .before .before .before .before .before .args .p) row (λ h l. omega (arith, c .before .before .before .kind .ensures)) (λ z. omega (arith, c .before .before .before .kind .ensures)) (λ z. omega (arith, c .before .before .before .kind .ensures))
+returns-5 c =
+    let d = c .before .before .before in
+    λ T g row. leaf-none g (d .before .before .before .before .before .before .before .before .before .before .args .p)
+    row (λ h l. omega (arith, d .kind .ensures))
+    (λ z. omega (arith, d .kind .ensures)) (λ z. omega (arith, d .kind .ensures))
 
 pub leaf-word-spec : {M : Type 1} → statement M
 leaf-word-spec =

@@ -19,7 +19,11 @@ same-length-4 : tie.Need-same-length-4
 same-length-4 c = search needs
 
 returns : tie.Need-returns
-returns c = record { marking = λ T g. c .before .before .before .before .before .before .before .before .mark-pattern .ensures T g (c .before .before .before .before .before .before .before .before .before .before .before .before .before .before .before .before .before .before .before .before .before .before .before .before .pre .row) }
+returns c = record {
+  marking = λ T g. c .before .before .before .before .before .before .before .before .mark-pattern .ensures T g
+      (c .before .before .before .before .before .before .before .before .before .before .before .before .before
+      .before .before .before .before .before .before .before .before .before .before .before .pre .row);
+}
 
 pub mark-spec : {M : Type 1} → statement M
 mark-spec =

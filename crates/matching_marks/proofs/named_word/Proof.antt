@@ -20,10 +20,18 @@ operand-words-requires : tie.Need-operand-words-requires
 operand-words-requires c κs = search needs
 
 returns : tie.Need-returns
-returns c = λ T pass below. named-attribute (tablesOf T (now (c .before .before .before .before .before .before .before .args .schema)) (now (c .before .before .before .before .before .before .before .args .instance))) pass (c .before .before .before .before .before .before .before .args .p) (c .before .before .before .before .before .before .before .args .e) (c .before .before .before .before .before .before .before .args .attributes) (sym (c .before .before .kind .ensures) ∙ c .before .match .keys1) (rw (c .before .before .before .field-a .ensures) at (c .attributes-named .ensures))
+returns c =
+    let a = c .before .before .before .before .before .before .before .args in
+    λ T pass below. named-attribute (tablesOf T (now (a .schema)) (now (a .instance))) pass (a .p)
+    (a .e) (a .attributes) (sym (c .before .before .kind .ensures) ∙ c .before .match .keys1)
+    (rw (c .before .before .before .field-a .ensures) at (c .attributes-named .ensures))
 
 returns-2 : tie.Need-returns-2
-returns-2 c = λ T pass below. named-other (tablesOf T (now (c .before .before .before .before .before .before .before .args .schema)) (now (c .before .before .before .before .before .before .before .args .instance))) pass (c .before .before .before .before .before .before .before .args .p) (c .before .before .before .before .before .before .before .args .e) (c .before .before .before .before .before .before .before .args .attributes) (now (c .before .before .before .before .before .before .before .args .named)) (λ z. c .before .match .rest .1 (c .before .before .kind .ensures ∙ z)) (c .operand-words .ensures) below
+returns-2 c =
+    let a = c .before .before .before .before .before .before .before .args in
+    λ T pass below. named-other (tablesOf T (now (a .schema)) (now (a .instance)))
+    pass (a .p) (a .e) (a .attributes) (now (a .named))
+    (λ z. c .before .match .rest .1 (c .before .before .kind .ensures ∙ z)) (c .operand-words .ensures) below
 
 pub named-word-spec : {M : Type 1} → statement M
 named-word-spec =

@@ -23,10 +23,16 @@ kind-requires : tie.Need-kind-requires
 kind-requires c κs = search needs
 
 returns : tie.Need-returns
-returns c = c .before .before .before .before .word .ensures ∙ rw (c .before .before .before .before .before .field-a .ensures) (sym (joined-one _ _ _ (sym (c .before .kind .ensures) ∙ c .match .keys1)))
+returns c =
+    c .before .before .before .before .word .ensures ∙ rw (c .before .before .before .before .before .field-a .ensures)
+    (sym (joined-one _ _ _ (sym (c .before .kind .ensures) ∙ c .match .keys1)))
 
 returns-2 : tie.Need-returns-2
-returns-2 c = ap₂ bitOr (rw (c .before .before .before .before .before .before .before .field-a .ensures) at (c .before .before .before .before .before .before .word .ensures)) (rw (c .before .before .before .before .before .field-b .ensures) at (c .before .before .before .before .word2 .ensures)) ∙ sym (joined-two _ _ _ (omega (arith, c .before .before .before .kind .ensures)) (omega (arith, c .before .before .before .kind .ensures)))
+returns-2 c =
+    let d = c .before .before .before in
+    ap₂ bitOr (rw (d .before .before .before .before .field-a .ensures) at (d .before .before .before .word .ensures))
+    (rw (d .before .before .field-b .ensures) at (d .before .word2 .ensures))
+    ∙ sym (joined-two _ _ _ (omega (arith, d .kind .ensures)) (omega (arith, d .kind .ensures)))
 
 returns-3 : tie.Need-returns-3
 returns-3 c = sym (joined-none _ _ _ (λ h l. omega (arith, c .before .before .kind .ensures)))

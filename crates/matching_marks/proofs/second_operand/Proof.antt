@@ -14,13 +14,20 @@ field-b-requires : tie.Need-field-b-requires
 field-b-requires c κs = search needs
 
 returns : tie.Need-returns
-returns c = c .field-b .ensures ∙ sym (second-is (now (c .before .before .before .before .before .args .schema)) (c .before .before .before .before .before .args .p) (omega (arith, c .before .before .before .kind .ensures)) (omega (arith, c .before .before .before .kind .ensures)))
+returns c =
+    let d = c .before .before .before in
+    c .field-b .ensures ∙ sym (second-is (now (d .before .before .args .schema))
+    (d .before .before .args .p) (omega (arith, d .kind .ensures)) (omega (arith, d .kind .ensures)))
 
 returns-2 : tie.Need-returns-2
-returns-2 c = sym (second-none (now (c .before .before .before .args .schema)) (c .before .before .before .args .p) (λ h l. omega (arith, c .before .kind .ensures)))
+returns-2 c =
+    let a = c .before .before .before .args in
+    sym (second-none (now (a .schema)) (a .p) (λ h l. omega (arith, c .before .kind .ensures)))
 
 returns-3 : tie.Need-returns-3
-returns-3 c = sym (second-none (now (c .before .before .before .before .args .schema)) (c .before .before .before .before .args .p) (λ h l. omega (arith, c .before .before .kind .ensures)))
+returns-3 c =
+    let a = c .before .before .before .before .args in
+    sym (second-none (now (a .schema)) (a .p) (λ h l. omega (arith, c .before .before .kind .ensures)))
 
 pub second-operand-spec : {M : Type 1} → statement M
 second-operand-spec =

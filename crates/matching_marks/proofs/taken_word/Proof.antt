@@ -25,13 +25,28 @@ operand-words-requires : tie.Need-operand-words-requires
 operand-words-requires c κs = search needs
 
 returns : tie.Need-returns
-returns c = λ T pass below. taken-ref (tablesOf T (now (c .before .before .before .before .before .before .before .before .before .args .schema)) (now (c .before .before .before .before .before .before .before .before .before .args .instance))) pass (c .before .before .before .before .before .before .before .before .before .args .p) (now (c .before .before .before .before .before .before .before .before .before .args .items)) (c .before .before .before .before .before .before .before .before .before .args .texts) (sym (c .before .before .kind .ensures) ∙ c .before .match .keys1) (rw (c .before .before .before .field-a2 .ensures, c .before .before .before .before .field-a .ensures) at (c .elements-named .ensures))
+returns c =
+    let d = c .before .before .before in
+    let a = d .before .before .before .before .before .before .args in
+    λ T pass below. taken-ref (tablesOf T (now (a .schema)) (now (a .instance))) pass (a .p)
+    (now (a .items)) (a .texts) (sym (c .before .before .kind .ensures) ∙ c .before .match .keys1)
+    (rw (d .field-a2 .ensures, d .before .field-a .ensures) at (c .elements-named .ensures))
 
 returns-2 : tie.Need-returns-2
-returns-2 c = λ T pass below. taken-strings (tablesOf T (now (c .before .before .before .before .before .before .before .before .before .before .args .schema)) (now (c .before .before .before .before .before .before .before .before .before .before .args .instance))) pass (c .before .before .before .before .before .before .before .before .before .before .args .p) (now (c .before .before .before .before .before .before .before .before .before .before .args .items)) (c .before .before .before .before .before .before .before .before .before .before .args .texts) (omega (arith, c .before .before .before .kind .ensures)) (omega (arith, c .before .before .before .kind .ensures))
+returns-2 c =
+    let a = c .before .before .before .before .before .before .before .before .before .before .args in
+    λ T pass below. taken-strings (tablesOf T (now (a .schema)) (now (a .instance))) pass (a .p)
+    (now (a .items)) (a .texts) (omega (arith, c .before .before .before .kind .ensures))
+    (omega (arith, c .before .before .before .kind .ensures))
 
 returns-3 : tie.Need-returns-3
-returns-3 c = λ T pass below. taken-other (tablesOf T (now (c .before .before .before .before .before .before .before .before .before .before .args .schema)) (now (c .before .before .before .before .before .before .before .before .before .before .args .instance))) pass (c .before .before .before .before .before .before .before .before .before .before .args .p) (now (c .before .before .before .before .before .before .before .before .before .before .args .items)) (c .before .before .before .before .before .before .before .before .before .before .args .texts) (now (c .before .before .before .before .before .before .before .before .before .before .args .taken)) (λ h l. ⊎-elim (λ i. omega (arith, i .taken, c .before .before .before .kind .ensures)) (λ i. omega (arith, i .1 .left, c .before .before .before .kind .ensures)) (c .before .if1 .came)) (λ z. omega (arith, c .before .before .before .kind .ensures)) (c .operand-words .ensures) below
+returns-3 c =
+    let a = c .before .before .before .before .before .before .before .before .before .before .args in
+    λ T pass below.
+    taken-other (tablesOf T (now (a .schema)) (now (a .instance))) pass (a .p) (now (a .items)) (a .texts)
+    (now (a .taken)) (λ h l. ⊎-elim (λ i. omega (arith, i .taken, c .before .before .before .kind .ensures))
+    (λ i. omega (arith, i .1 .left, c .before .before .before .kind .ensures)) (c .before .if1 .came))
+    (λ z. omega (arith, c .before .before .before .kind .ensures)) (c .operand-words .ensures) below
 
 pub taken-word-spec : {M : Type 1} → statement M
 taken-word-spec =

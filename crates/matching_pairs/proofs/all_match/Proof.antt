@@ -24,7 +24,9 @@ returns : tie.Need-returns
 returns c = λ S q covered.
     let s = c .before .before .before .before .before .before .before .before .before .before .before .before .before in
     let x = s .args in
-    word-tells (x .n) (c .before .before .before .before .before .relate .last .1 .1 .1 .1 .1 .1 .1 .1 .1 .0) (Related S _ (x .a) (x .k) (x .p)) (c .before .before .before .before .before .relate .ensures S q covered) (c .before .word .ensures) (c .has .ensures)
+    word-tells (x .n) (c .before .before .before .before .before .relate .last .1 .1 .1 .1 .1 .1 .1 .1 .1 .0)
+    (Related S _ (x .a) (x .k) (x .p)) (c .before .before .before .before .before .relate .ensures S q covered)
+    (c .before .word .ensures) (c .has .ensures)
 
 pub all-match-spec : {M : Type 1} → statement M
 all-match-spec =

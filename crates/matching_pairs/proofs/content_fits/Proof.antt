@@ -17,16 +17,22 @@ returns : tie.Need-returns
 returns c = λ S q covered. inl (rw (c .if1 .taken) at (c .before .before .before .all-match .ensures S q covered))
 
 all-match-requires-2 : tie.Need-all-match-requires-2
-all-match-requires-2 c κs = relatable-none (c .before .before .before .before .before .before .before .before .before .before .before .before .before .pre) (c .before .before .before .before .work .given)
+all-match-requires-2 c κs =
+    let d = c .before .before .before .before in
+    relatable-none (d .before .before .before .before .before .before .before .before .before .pre) (d .work .given)
 
 same-length-2 : tie.Need-same-length-2
 same-length-2 c = search needs
 
 returns-2 : tie.Need-returns-2
-returns-2 c = λ S q covered.
-    let x = c .before .before .before .before .before .before .before .before .before .before .before .before .before .before .before .before .args in
-    second-tells (Related S (x .n + 1) (x .a) (x .k) (x .p) 0 (x .n)) (Related S (x .n + 1) (x .a) 0 (x .p) 0 (x .n)) (x .weak) (c .before .before .all-match2 .result)
-    (rw (c .before .before .before .before .before .if1 .left) at (c .before .before .before .before .before .before .before .before .all-match .ensures S q covered)) (c .before .before .before .before .if2 .taken) (c .before .before .all-match2 .ensures S (asked-none S (x .a) (x .k) q) covered)
+returns-2 c =
+    let d = c .before .before .before .before in
+    λ S q covered.
+    let x = d .before .before .before .before .before .before .before .before .before .before .before .before .args in
+    second-tells (Related S (x .n + 1) (x .a) (x .k) (x .p) 0 (x .n))
+    (Related S (x .n + 1) (x .a) 0 (x .p) 0 (x .n)) (x .weak) (c .before .before .all-match2 .result)
+    (rw (d .before .if1 .left) at (d .before .before .before .before .all-match .ensures S q covered))
+    (d .if2 .taken) (c .before .before .all-match2 .ensures S (asked-none S (x .a) (x .k) q) covered)
 
 same-length-3 : tie.Need-same-length-3
 same-length-3 c = search needs
@@ -34,7 +40,9 @@ same-length-3 c = search needs
 returns-3 : tie.Need-returns-3
 returns-3 c = λ S q covered.
     let x = c .before .before .before .before .before .before .before .before .before .before .before .before .args in
-    neither-tells (Related S (x .n + 1) (x .a) (x .k) (x .p) 0 (x .n)) (Related S (x .n + 1) (x .a) 0 (x .p) 0 (x .n)) (x .weak) (rw (c .before .if1 .left) at (c .before .before .before .before .all-match .ensures S q covered)) (c .if2 .left)
+    neither-tells (Related S (x .n + 1) (x .a) (x .k) (x .p) 0 (x .n)) (Related S (x .n + 1) (x .a) 0 (x .p) 0 (x .n))
+    (x .weak) (rw (c .before .if1 .left) at (c .before .before .before .before .all-match .ensures S q covered))
+    (c .if2 .left)
 
 pub content-fits-spec : {M : Type 1} → statement M
 content-fits-spec =

@@ -28,7 +28,8 @@ returns : tie.Need-returns
 returns c = let s = c .before .before .before .before .before .before in
     let few = s .pre .0 in
     let room = s .pre .1 in
-    mixed-stands (now (s .args .blank)) (now (s .args .items)) few (omega arith) (c .before .first-items .ensures) (c .before .before .before .if1 .taken) (c .solid .ensures)
+    mixed-stands (now (s .args .blank)) (now (s .args .items)) few (omega arith)
+    (c .before .first-items .ensures) (c .before .before .before .if1 .taken) (c .solid .ensures)
 
 only-string-requires : tie.Need-only-string-requires
 only-string-requires c κs = search needs
@@ -48,7 +49,8 @@ same-length-2 c = search needs
 returns-2 : tie.Need-returns-2
 returns-2 c = let s = c .before .before .before .before .before .before in
     let room = s .pre .1 in
-    simple-stands (now (s .args .blank)) (now (s .args .items)) (omega arith) (c .before .before .before .if1 .left) (c .before .only-string .ensures) (ap (λ (x : ℕ). eqb x 1) (c .byte .ensures))
+    simple-stands (now (s .args .blank)) (now (s .args .items)) (omega arith) (c .before .before .before .if1 .left)
+    (c .before .only-string .ensures) (ap (λ (x : ℕ). eqb x 1) (c .byte .ensures))
 
 pub content-of-spec : {M : Type 1} → statement M
 content-of-spec =

@@ -12,10 +12,16 @@ use Rattle.matching_pairs.proofs.pair_all.Statement.{statement}
 use Rattle.matching_pairs.proofs.pair_all.Tie as tie
 
 abbrev Inv-loop : tie.InvT-loop
-Inv-loop schema instance alone nothing blank definitions items₀ pairs₀ marks₀ named₀ taken₀ single₀ work₀ r₀ items pairs marks named taken single work r = (r ≤ nodesOf instance) × (length items ≡ length items₀) × (length pairs ≡ length pairs₀) × (length marks ≡ length marks₀) × (length named ≡ length named₀) × (length taken ≡ length taken₀) × (length single ≡ length single₀) × (length work ≡ length work₀) × ((T : StringTable) → Filling (tablesOf T schema instance) alone nothing blank pairs₀ (nodesOf instance) → Filling (tablesOf T schema instance) alone nothing blank pairs r)
+Inv-loop schema instance alone nothing blank definitions items₀ pairs₀ marks₀ named₀ taken₀ single₀ work₀
+    r₀ items pairs marks named taken single work r = (r ≤ nodesOf instance) × (length items ≡ length items₀)
+    × (length pairs ≡ length pairs₀) × (length marks ≡ length marks₀) × (length named ≡ length named₀)
+    × (length taken ≡ length taken₀) × (length single ≡ length single₀) × (length work ≡ length work₀)
+    × ((T : StringTable) → Filling (tablesOf T schema instance) alone nothing blank pairs₀ (nodesOf instance)
+    → Filling (tablesOf T schema instance) alone nothing blank pairs r)
 
 abbrev μ-loop : tie.MeasureT-loop
-μ-loop schema instance alone nothing blank definitions items₀ pairs₀ marks₀ named₀ taken₀ single₀ work₀ r₀ items pairs marks named taken single work r = r
+μ-loop schema instance alone nothing blank definitions items₀ pairs₀ marks₀ named₀
+    taken₀ single₀ work₀ r₀ items pairs marks named taken single work r = r
 
 loop-holds : tie.Need-loop-holds Inv-loop μ-loop
 loop-holds c = (omega arith, refl, refl, refl, refl, refl, refl, refl, λ T f. f)
@@ -26,14 +32,16 @@ sub-r c = search needs
 cast-pair-node : tie.Need-cast-pair-node Inv-loop μ-loop
 cast-pair-node c =
     let low = c .before .loop .inv .0 in
-    let few = nodes-few (c .before .before .before .before .before .before .before .before .before .before .before .before .before .before .before .pre .1 .filling .pass) in
+    let few = nodes-few (c .before .before .before .before .before .before .before .before
+    .before .before .before .before .before .before .before .pre .1 .filling .pass) in
     omega arith
 
 pair-node-requires : tie.Need-pair-node-requires Inv-loop μ-loop
 pair-node-requires c κs =
     let i = c .before .before .before .before .before .before .before .before .loop .inv in
     let r = c .before .before .before .before .before .before .before .before .loop .r in
-    let q = c .before .before .before .before .before .before .before .before .before .before .before .before .before .before .before .before .before .before .before .before .before .before .pre in
+    let q = c .before .before .before .before .before .before .before .before .before .before .before
+    .before .before .before .before .before .before .before .before .before .before .before .pre in
     let x0 = i .0 in
     let x1 = i .1 in
     let x2 = i .2 in
@@ -50,8 +58,20 @@ pair-node-requires c κs =
     let h₆ = q .1 .room in
     let h₇ = q .1 .room-items in
     let e : r - 1 + 1 ≡ r = omega arith in (
-      record { for-marks = omega arith; for-named = omega arith; for-taken = omega arith; for-single = omega arith; for-work = omega arith },
-      record { strings = q .1 .strings; filling = rw e (i .8 (q .1 .strings) (q .1 .filling)); row = omega arith; room = omega arith; room-items = omega arith },
+      record {
+        for-marks = omega arith;
+        for-named = omega arith;
+        for-taken = omega arith;
+        for-single = omega arith;
+        for-work = omega arith;
+      },
+      record {
+        strings = q .1 .strings;
+        filling = rw e (i .8 (q .1 .strings) (q .1 .filling));
+        row = omega arith;
+        room = omega arith;
+        room-items = omega arith;
+      },
       q .2,
     )
 
@@ -60,19 +80,24 @@ loop-less c = search needs
 
 loop-again : tie.Need-loop-again Inv-loop μ-loop
 loop-again c =
-    let i = c .before .before .before .before .before .before .before .before .before .before .before .before .before .before .before .before .before .before .before .before .before .before .before .loop .inv in
-    let r = c .before .before .before .before .before .before .before .before .before .before .before .before .before .before .before .before .before .before .before .before .before .before .before .loop .r in
+    let c₁ = c .before .before .before .before .before in
+    let c₂ = c₁ .before .before .before .before in
+    let c₃ = c₂ .before .before .before .before in
+    let c₄ = c₃ .before .before .before .before .before .before .before .before .before .before in
+    let i = c₄ .loop .inv in
+    let r = c₄ .loop .r in
     let x0 = i .0 in
+    let h = c₃ .before .before .before .before .before .before .before .before .before .loop-test .taken in
     let e : r - 1 + 1 ≡ r = omega arith in (
       omega arith,
-      c .before .before .before .before .before .before .before .before .before .before .before .before .before .items .given ∙ i .1,
-      c .before .before .before .before .before .before .before .before .before .before .before .pairs .given ∙ i .2,
-      c .before .before .before .before .before .before .before .before .before .marks .given ∙ i .3,
-      c .before .before .before .before .before .before .before .named .given ∙ i .4,
-      c .before .before .before .before .before .taken .given ∙ i .5,
+      c₃ .items .given ∙ i .1,
+      c₂ .before .before .pairs .given ∙ i .2,
+      c₂ .marks .given ∙ i .3,
+      c₁ .before .before .named .given ∙ i .4,
+      c₁ .taken .given ∙ i .5,
       c .before .before .before .single .given ∙ i .6,
       c .before .work .given ∙ i .7,
-      λ T f. c .before .before .before .before .before .before .before .before .before .before .before .before .before .before .pair-node .ensures T (rw e (i .8 T f)),
+      λ T f. c₃ .before .pair-node .ensures T (rw e (i .8 T f)),
     )
 
 same-length : tie.Need-same-length Inv-loop μ-loop

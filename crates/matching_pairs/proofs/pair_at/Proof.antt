@@ -21,21 +21,38 @@ in-class-requires : tie.Need-in-class-requires
 in-class-requires c κs = search needs
 
 returns : tie.Need-returns
-returns c = λ T g shown. no-name g shown (c .before .before .before .before .before .before .before .before .before .before .before .before .before .before .before .before .before .args .d) (rw (c .before .before .before .before .field-a .ensures, c .before .before .before .field-a2 .ensures, c .before .before .field-b .ensures) at (sym (c .before .in-class .ensures) ∙ not-true (c .before .in-class .result) (c .if1 .taken)))
+returns c =
+    λ T g shown. no-name g shown (c .before .before .before .before .before .before .before .before .before .before
+    .before .before .before .before .before .before .before .args .d) (rw (
+      c .before .before .before .before .field-a .ensures,
+      c .before .before .before .field-a2 .ensures,
+      c .before .before .field-b .ensures,
+    ) at (sym (c .before .in-class .ensures) ∙ not-true (c .before .in-class .result) (c .if1 .taken)))
 
 field-b-requires-2 : tie.Need-field-b-requires-2
 field-b-requires-2 c κs = search needs
 
 mark-requires : tie.Need-mark-requires
-mark-requires c κs = markable (c .before .before .before .before .before .before .before .before .before .before .before .before .before .before .before .before .before .before .before .before .before .before .pre .1) (c .before .before .before .before .field-b2 .ensures) (c .before .before .before .before .before .before .before .before .before .before .before .before .before .before .before .before .before .before .before .before .before .before .pre .0)
+mark-requires c κs =
+    let pre = c .before .before .before .before .before .before .before .before .before .before .before
+    .before .before .before .before .before .before .before .before .before .before .before .pre in
+    markable (pre .1) (c .before .before .before .before .field-b2 .ensures) (pre .0)
 
 cast-n : tie.Need-cast-n
-cast-n c = let few = c .before .before .before .before .before .before .before .before .before .before .before .before .before .before .before .before .before .before .before .before .before .before .before .before .before .before .before .before .before .before .before .pre .1 .given .few-items in omega arith
+cast-n c =
+    let few = c .before .before .before .before .before .before .before .before .before .before .before
+    .before .before .before .before .before .before .before .before .before .before .before .before
+    .before .before .before .before .before .before .before .before .pre .1 .given .few-items in
+    omega arith
 
 content-fits-requires : tie.Need-content-fits-requires
 content-fits-requires c κs =
-    let room = c .before .before .before .before .before .before .before .before .before .before .before .before .before .before .before .before .before .before .before .before .before .before .before .before .before .before .before .before .before .before .before .before .before .before .before .before .pre .0 .for-work in
-    pair-relatable (c .before .before .before .before .before .before .before .before .before .before .before .before .before .before .before .before .before .before .before .before .before .before .before .before .before .before .before .before .before .before .before .before .before .before .before .before .pre .1) (c .before .before .before .before .before .before .before .before .before .before .before .before .before .before .before .before .before .before .field-b2 .ensures) (c .before .before .before .before .before .before .before .before .before .before .before .before .before .mark .ensures) refl (omega arith)
+    let d = c .before .before .before .before .before .before .before .before .before .before .before .before .before in
+    let pre = d .before .before .before .before .before .before .before .before .before .before .before
+    .before .before .before .before .before .before .before .before .before .before .before .before .pre in
+    let room = pre .0 .for-work in
+    pair-relatable (pre .1) (d .before .before .before .before .before .field-b2 .ensures)
+    (d .mark .ensures) refl (omega arith)
 
 same-length : tie.Need-same-length
 same-length c = search needs
@@ -53,13 +70,25 @@ same-length-5 : tie.Need-same-length-5
 same-length-5 c = search needs
 
 returns-2 : tie.Need-returns-2
-returns-2 c = λ T g shown.
-    let q = c .before .before .before .before .before .before .before .before .before .before .before .before .before .before .before .before .before .before .before .before .before .before .before .before .before .before .before .before .before .before .before .before .before .before .before .before .before .before .before .before .pre .1 in
-    let d = c .before .before .before .before .before .before .before .before .before .before .before .before .before .before .before .before .before .before .before .before .before .before .before .before .before .before .before .before .before .before .before .before .before .before .before .before .before .before .before .before .args .d in
-    let pattern = c .before .before .before .before .before .before .before .before .before .before .before .before .before .before .before .before .before .before .before .before .before .before .field-b2 .ensures in
-    let marked = c .before .before .before .before .before .before .before .before .before .before .before .before .before .before .before .before .before .mark .ensures .marking T g in
+returns-2 c =
+    let c₁ = c .before .before .before .before .before .before .before .before
+    .before .before .before .before .before .before .before .before .before in
+    let c₂ = c₁ .before .before .before .before .before in
+    let c₃ = c₂ .before .before in
+    let c₄ = c₃ .before .before .before .before .before .before .before .before
+    .before .before .before .before .before .before .before .before in
+    λ T g shown.
+    let q = c₄ .pre .1 in
+    let d = c₄ .args .d in
+    let pattern = c₂ .field-b2 .ensures in
+    let marked = c₁ .mark .ensures .marking T g in
     let fits = c .before .before .before .content-fits .ensures (setting g shown) (asked g shown) (marked .pattern) in
-    a-pair g shown d (q .element) (q .defined) (rw (c .before .before .before .before .before .before .before .before .before .before .before .before .before .before .before .before .before .before .before .before .before .before .before .before .before .before .before .field-a .ensures, c .before .before .before .before .before .before .before .before .before .before .before .before .before .before .before .before .before .before .before .before .before .before .before .before .before .before .field-a2 .ensures, c .before .before .before .before .before .before .before .before .before .before .before .before .before .before .before .before .before .before .before .before .before .before .before .before .before .field-b .ensures) at (sym (c .before .before .before .before .before .before .before .before .before .before .before .before .before .before .before .before .before .before .before .before .before .before .before .before .in-class .ensures) ∙ not-false (c .before .before .before .before .before .before .before .before .before .before .before .before .before .before .before .before .before .before .before .before .before .before .before .before .in-class .result) (c .before .before .before .before .before .before .before .before .before .before .before .before .before .before .before .before .before .before .before .before .before .before .before .if1 .left))) (rw (c .if2 .taken, pattern) at fits)
+    a-pair g shown d (q .element) (q .defined) (rw (
+      c₃ .before .before .before .field-a .ensures,
+      c₃ .before .before .field-a2 .ensures,
+      c₃ .before .field-b .ensures,
+    ) at (sym (c₃ .in-class .ensures) ∙ not-false (c₃ .in-class .result) (c₂ .before .if1 .left)))
+    (rw (c .if2 .taken, pattern) at fits)
 
 same-length-6 : tie.Need-same-length-6
 same-length-6 c = search needs
@@ -77,10 +106,14 @@ same-length-10 : tie.Need-same-length-10
 same-length-10 c = search needs
 
 returns-3 : tie.Need-returns-3
-returns-3 c = λ T g shown.
-    let d = c .before .before .before .before .before .before .before .before .before .before .before .before .before .before .before .before .before .before .before .before .before .before .before .before .before .before .before .before .before .before .before .before .before .before .before .before .before .before .before .before .args .d in
-    let pattern = c .before .before .before .before .before .before .before .before .before .before .before .before .before .before .before .before .before .before .before .before .before .before .field-b2 .ensures in
-    let marked = c .before .before .before .before .before .before .before .before .before .before .before .before .before .before .before .before .before .mark .ensures .marking T g in
+returns-3 c =
+    let c₁ = c .before .before .before .before .before .before .before .before
+    .before .before .before .before .before .before .before .before .before in
+    λ T g shown.
+    let d = c₁ .before .before .before .before .before .before .before .before .before .before .before .before
+    .before .before .before .before .before .before .before .before .before .before .before .args .d in
+    let pattern = c₁ .before .before .before .before .before .field-b2 .ensures in
+    let marked = c₁ .mark .ensures .marking T g in
     let fits = c .before .before .before .content-fits .ensures (setting g shown) (asked g shown) (marked .pattern) in
     no-content g shown d (rw (c .if2 .left, pattern) at fits)
 

@@ -13,7 +13,11 @@ returns : tie.Need-returns
 returns c = λ T f. filling-past (ne-eqb _ 1 (λ z. c .if1 .taken (c .before .kind .ensures ∙ z))) f
 
 pair-element-requires : tie.Need-pair-element-requires
-pair-element-requires c κs = let q = c .before .before .before .before .before .before .before .before .before .before .before .before .before .before .before .before .before .before .before .before .before .before .pre in (q .0, q .1, eq-eqb _ 1 (sym (c .before .before .before .before .before .before .before .before .kind .ensures) ∙ c .before .before .before .before .before .before .before .if1 .left), q .2)
+pair-element-requires c κs =
+    let d = c .before .before .before .before .before .before .before in
+    let q = d .before .before .before .before .before .before .before .before
+    .before .before .before .before .before .before .before .pre in
+    (q .0, q .1, eq-eqb _ 1 (sym (d .before .kind .ensures) ∙ d .if1 .left), q .2)
 
 same-length : tie.Need-same-length
 same-length c = search needs
@@ -37,7 +41,9 @@ same-length-7 : tie.Need-same-length-7
 same-length-7 c = search needs
 
 returns-2 : tie.Need-returns-2
-returns-2 c = λ T f. filling-row f (c .before .before .before .before .before .before .before .before .before .before .before .before .before .before .pair-element .ensures T f)
+returns-2 c =
+    λ T f. filling-row f (c .before .before .before .before .before .before .before
+    .before .before .before .before .before .before .before .pair-element .ensures T f)
 
 pub pair-node-spec : {M : Type 1} → statement M
 pair-node-spec =

@@ -33,14 +33,26 @@ slice-aggregate-fill-3 c = search needs
 
 fill-requires : tie.Need-fill-requires
 fill-requires c κs =
-    let pass = c .before .before .before .before .before .before .before .before .before .before .before .before .pre .pass in
-    record { passes = pass .schema; few-bytes = few-bytes (λ k x. ends-of (pass .strings) k (at-front x)); few-strings = few-strings (λ k x. ends-of (pass .strings) k (at-front x)); long-alone = whole; long-nothing = omega arith; long-blank = omega arith }
+    let pass =
+    c .before .before .before .before .before .before .before .before .before .before .before .before .pre .pass in
+    record {
+      passes = pass .schema;
+      few-bytes = few-bytes (λ k x. ends-of (pass .strings) k (at-front x));
+      few-strings = few-strings (λ k x. ends-of (pass .strings) k (at-front x));
+      long-alone = whole;
+      long-nothing = omega arith;
+      long-blank = omega arith;
+    }
 
 slice-aggregate-definitions : tie.Need-slice-aggregate-definitions
 slice-aggregate-definitions c = search needs
 
 definitions-requires : tie.Need-definitions-requires
-definitions-requires c κs = (few-rows (right-size (c .before .before .before .before .before .before .before .before .before .before .before .before .before .before .before .before .before .pre .pass .schema .rows)), omega arith)
+definitions-requires c κs = (
+  few-rows (right-size (c .before .before .before .before .before .before .before .before .before
+      .before .before .before .before .before .before .before .before .pre .pass .schema .rows)),
+  omega arith,
+)
 
 cast-n : tie.Need-cast-n
 cast-n c = search needs
@@ -56,17 +68,21 @@ slice-aggregate-pair-all-3 c = search needs
 
 array-share-prefix-rows : tie.Need-array-share-prefix-rows
 array-share-prefix-rows c =
-    let n = c .before .before .before .before .definitions .ensures .0 .few in
-    let few = few-rows (right-size (c .before .before .before .before .before .before .before .before .before .before .before .before .before .before .before .before .before .before .before .before .before .before .pre .pass .schema .rows)) in
-    let l = c .before .before .before .rows2 .given in
+    let d = c .before .before .before in
+    let n = d .before .definitions .ensures .0 .few in
+    let few = few-rows (right-size (d .before .before .before .before .before .before .before .before .before
+    .before .before .before .before .before .before .before .before .before .before .pre .pass .schema .rows)) in
+    let l = d .rows2 .given in
     omega arith
 
 slice-aggregate-pair-all-4 : tie.Need-slice-aggregate-pair-all-4
 slice-aggregate-pair-all-4 c =
-    let n = c .before .before .before .before .before .definitions .ensures .0 .few in
-    let few = few-rows (right-size (c .before .before .before .before .before .before .before .before .before .before .before .before .before .before .before .before .before .before .before .before .before .before .before .pre .pass .schema .rows)) in
-    let l = c .before .before .before .before .rows2 .given in
-    sym (length-take-le (c .before .before .before .before .before .definitions .result) (c .before .before .before .before .before .definitions .last .1 .0) (omega arith))
+    let d = c .before .before .before .before in
+    let n = d .before .definitions .ensures .0 .few in
+    let few = few-rows (right-size (d .before .before .before .before .before .before .before .before .before
+    .before .before .before .before .before .before .before .before .before .before .pre .pass .schema .rows)) in
+    let l = d .rows2 .given in
+    sym (length-take-le (d .before .definitions .result) (d .before .definitions .last .1 .0) (omega arith))
 
 slice-aggregate-pair-all-5 : tie.Need-slice-aggregate-pair-all-5
 slice-aggregate-pair-all-5 c = search needs
@@ -88,22 +104,47 @@ slice-aggregate-pair-all-10 c = search needs
 
 pair-all-requires : tie.Need-pair-all-requires
 pair-all-requires c κs =
-    let pass = c .before .before .before .before .before .before .before .before .before .before .before .before .before .before .before .before .before .before .before .before .before .before .before .before .before .before .before .before .before .before .pre .pass in
+    let c₁ = c .before .before .before .before .before .before .before .before .before .before .before in
+    let c₂ = c₁ .before .before .before .before .before .before .before .before .before .before .before in
+    let c₃ = c₂ .before .before .before .before .before .before .before .before in
+    let pass = c₃ .pre .pass in
     let few = few-rows (right-size (pass .schema .rows)) in
-    let n = c .before .before .before .before .before .before .before .before .before .before .before .before .definitions .ensures .0 .few in
-    let l = c .before .before .before .before .before .before .before .before .before .before .before .rows2 .given in
-    let room = c .before .before .before .before .before .before .before .before .before .before .before .before .before .before .before .before .before .before .before .before .before .before .before .before .before .before .before .before .before .before .pre .room in
-    let size = c .before .before .before .before .before .before .before .before .before .before .before .before .before .before .before .before .before .before .before .before .before .before .pairs .given in (
-      record { for-marks = omega arith; for-named = omega arith; for-taken = omega arith; for-single = omega arith; for-work = omega arith },
-      record { strings = _; filling = filling-start (length (now (c .before .before .before .before .before .before .before .before .before .before .before .before .before .before .before .before .before .before .before .before .before .before .before .before .before .before .before .before .before .before .args .pairs))) pass (c .before .before .before .before .before .before .before .before .before .before .before .before .before .before .before .before .before .fill .ensures) (c .before .before .before .before .before .before .before .before .before .before .before .before .before .before .before .before .before .before .before .before .before .before .before .zero-u8 .ensures); room = omega arith; room-items = omega arith },
-      definitions-part (omega arith) (c .before .before .before .before .before .before .before .before .before .before .before .before .definitions .ensures .0),
+    let n = c₁ .before .definitions .ensures .0 .few in
+    let l = c₁ .rows2 .given in
+    let room = c₃ .pre .room in
+    let size = c₂ .pairs .given in (
+      record {
+        for-marks = omega arith;
+        for-named = omega arith;
+        for-taken = omega arith;
+        for-single = omega arith;
+        for-work = omega arith;
+      },
+      record {
+        strings = _;
+        filling = filling-start (length (now (c₃ .args .pairs))) pass
+            (c₁ .before .before .before .before .before .before .fill .ensures) (c₂ .before .zero-u8 .ensures);
+        room = omega arith;
+        room-items = omega arith;
+      },
+      definitions-part (omega arith) (c₁ .before .definitions .ensures .0),
     )
 
 same-length : tie.Need-same-length
-same-length c = c .before .before .before .before .before .before .pairs2 .given ∙ c .before .before .before .before .before .before .before .before .before .before .before .before .before .before .before .before .before .before .before .before .before .before .before .before .before .before .before .before .before .before .before .pairs .given
+same-length c =
+    c .before .before .before .before .before .before .pairs2 .given ∙ c .before .before .before .before .before
+    .before .before .before .before .before .before .before .before .before .before .before .before .before .before
+    .before .before .before .before .before .before .before .before .before .before .before .before .pairs .given
 
 returns : tie.Need-returns
-returns c = c .before .before .before .before .before .before .before .before .pair-all .ensures _ (filling-start (length (now (c .before .before .before .before .before .before .before .before .before .before .before .before .before .before .before .before .before .before .before .before .before .before .before .before .before .before .before .before .before .before .before .before .before .before .before .before .before .before .before .args .pairs))) (c .before .before .before .before .before .before .before .before .before .before .before .before .before .before .before .before .before .before .before .before .before .before .before .before .before .before .before .before .before .before .before .before .before .before .before .before .before .before .before .pre .pass) (c .before .before .before .before .before .before .before .before .before .before .before .before .before .before .before .before .before .before .before .before .before .before .before .before .before .before .fill .ensures) (c .before .before .before .before .before .before .before .before .before .before .before .before .before .before .before .before .before .before .before .before .before .before .before .before .before .before .before .before .before .before .before .before .zero-u8 .ensures)) .from
+returns c =
+    let c₁ = c .before .before .before .before .before .before .before .before in
+    let c₂ = c₁ .before .before .before .before .before .before .before .before .before
+    .before .before .before .before .before .before .before .before .before in
+    let c₃ = c₂ .before .before .before .before .before .before in
+    let c₄ = c₃ .before .before .before .before .before .before .before in
+    c₁ .pair-all .ensures _ (filling-start (length (now (c₄ .args .pairs)))
+    (c₄ .pre .pass) (c₂ .fill .ensures) (c₃ .zero-u8 .ensures)) .from
 
 pub pair-table-spec : {M : Type 1} → statement M
 pair-table-spec =

@@ -49,10 +49,19 @@ loop-less : tie.Need-loop-less Inv-loop μ-loop
 loop-less c = search needs
 
 loop-again : tie.Need-loop-again Inv-loop μ-loop
-loop-again c = (omega arith, collects-more {b = not (c .before .before .has .result && eqb (c .before .byte .result) 1)} (c .before .before .before .before .before .loop .inv .1) (rw (c .before .before .has .ensures, c .before .byte .ensures, c .before .before .before .word .ensures)) (c .add-if .ensures))
+loop-again c = (
+  omega arith,
+  collects-more {b = not (c .before .before .has .result && eqb (c .before .byte .result) 1)}
+      (c .before .before .before .before .before .loop .inv .1)
+      (rw (c .before .before .has .ensures, c .before .byte .ensures, c .before .before .before .word .ensures))
+      (c .add-if .ensures),
+)
 
 returns : tie.Need-returns Inv-loop μ-loop
-returns c = let i = c .before .loop .inv in let e : c .before .loop .k ≡ length (now (c .before .before .before .before .args .items)) = omega (arith, i .0) in rw e at (i .1)
+returns c =
+    let i = c .before .loop .inv in
+    let e : c .before .loop .k ≡ length (now (c .before .before .before .before .args .items)) = omega (arith, i .0) in
+    rw e at (i .1)
 
 pub solid-spec : {M : Type 1} → statement M
 solid-spec =

@@ -19,7 +19,9 @@ use Rattle.matching_rules.specs.Items.{string}
 use Rattle.matching_rules.specs.Job.{datatypeEqual}
 use Rattle.matching_tokens.specs.MarkTable.{PlainAt}
 use Rattle.matching_tokens.specs.Tokens.{DecidesAt}
-use Rattle.matching_tokens.proofs.Leaves.{except-falls, choice-falls-a, choice-falls-b, except-plain, choice-plain, fits-all, fits-value, fits-but, fits-first, fits-second, fits-none}
+use Rattle.matching_tokens.proofs.Leaves.{except-falls, choice-falls-a, choice-falls-b}
+use Rattle.matching_tokens.proofs.Leaves.{except-plain, choice-plain, fits-all, fits-value}
+use Rattle.matching_tokens.proofs.Leaves.{fits-but, fits-first, fits-second, fits-none}
 use Rattle.matching_tokens.proofs.fits.Reads as fits
 use Rattle.matching_tokens.proofs.fits.Kinds as fits-kinds
 use Rattle.matching_tokens.proofs.+fits.Lts-fits as fits-lts
@@ -38,8 +40,18 @@ module _ (t : ℕ) where
   fits-below = and 5 fits-kinds.ps (falls 5 fits-kinds.ps _<_ μ-fits t) fits.Pre
 
   abbrev fits-calls : fits-lts.Claims
-  fits-calls =
-      (kind-reads.Asked, kind-reads.Learnt, field-a-reads.Asked, field-a-reads.Learnt, field-b-reads.Asked, field-b-reads.Learnt, fits-below, fits.Post, same-value-reads.Asked, same-value-reads.Learnt)
+  fits-calls = (
+    kind-reads.Asked,
+    kind-reads.Learnt,
+    field-a-reads.Asked,
+    field-a-reads.Learnt,
+    field-b-reads.Asked,
+    field-b-reads.Learnt,
+    fits-below,
+    fits.Post,
+    same-value-reads.Asked,
+    same-value-reads.Learnt,
+  )
 
   fits-kind-requires : fits-lts.Need-kind-requires fits-calls fits-at fits.Post
   fits-kind-requires c κs = tt
@@ -55,7 +67,8 @@ module _ (t : ℕ) where
       let m = c .before in
       let a = m .before .before .before .before .before .before .before .before .before .args in
       fits-all (stringTable (now (a .bytes)) (now (a .ends))) (now (a .schema)) (a .p) (now (a .token))
-      (sym (m .before .before .before .kind .ensures) ∙ m .match .keys1) (sym (m .before .field-b .ensures) ∙ c .if1 .taken)
+      (sym (m .before .before .before .kind .ensures) ∙ m .match .keys1)
+      (sym (m .before .field-b .ensures) ∙ c .if1 .taken)
 
   fits-fits-requires : fits-lts.Need-fits-requires fits-calls fits-at fits.Post
   fits-fits-requires c κs =
@@ -67,8 +80,10 @@ module _ (t : ℕ) where
       let ready = at .pre .1 .0 in
       let k : kindOf s (a .p) ≡ kind.«data» = sym (m .before .before .before .kind .ensures) ∙ m .match .keys1 in
       let b = m .before .field-b .ensures in
-      let some : bOf s (a .p) ≢ kind.noRow = (λ z. c .if1 .left (b ∙ z)) in
-      (omega (arith, b, except-falls T s (ready .passes) (a .p) k some), (ready, subst (PlainAt T s) (sym b) (except-plain T s (ready .passes) (a .p) k some)))
+      let some : bOf s (a .p) ≢ kind.noRow = (λ z. c .if1 .left (b ∙ z)) in (
+        omega (arith, b, except-falls T s (ready .passes) (a .p) k some),
+        (ready, subst (PlainAt T s) (sym b) (except-plain T s (ready .passes) (a .p) k some)),
+      )
 
   fits-same-value-requires : fits-lts.Need-same-value-requires fits-calls fits-at fits.Post
   fits-same-value-requires c κs =
@@ -83,8 +98,10 @@ module _ (t : ℕ) where
       let s = now (a .schema) in
       let ready = at .pre .1 .0 in
       let k : kindOf s (a .p) ≡ kind.choice = sym (c .before .before .before .kind .ensures) ∙ c .match .keys3 in
-      let x = c .before .before .field-a .ensures in
-      (omega (arith, x, choice-falls-a T s (ready .passes) (a .p) k), (ready, subst (PlainAt T s) (sym x) (choice-plain T s (a .p) (at .pre .1 .1) k .0)))
+      let x = c .before .before .field-a .ensures in (
+        omega (arith, x, choice-falls-a T s (ready .passes) (a .p) k),
+        (ready, subst (PlainAt T s) (sym x) (choice-plain T s (a .p) (at .pre .1 .1) k .0)),
+      )
 
   fits-returns-2 : fits-lts.Need-returns-2 fits-calls fits-at fits.Post
   fits-returns-2 c =
@@ -94,7 +111,8 @@ module _ (t : ℕ) where
       let s = now (a .schema) in
       let f = c .before .fits3 in
       fits-first T s (a .p) (now (a .token)) (sym (m .before .before .before .kind .ensures) ∙ m .match .keys3)
-      (subst (λ (q : ℕ). DecidesAt T s q (string (now (a .token)) ∷ []) (f .result)) (m .before .before .field-a .ensures) (f .ensures)) (c .if2 .taken)
+      (subst (λ (q : ℕ). DecidesAt T s q (string (now (a .token)) ∷ []) (f .result))
+      (m .before .before .field-a .ensures) (f .ensures)) (c .if2 .taken)
 
   fits-fits-requires-3 : fits-lts.Need-fits-requires-3 fits-calls fits-at fits.Post
   fits-fits-requires-3 c κs =
@@ -105,8 +123,10 @@ module _ (t : ℕ) where
       let s = now (a .schema) in
       let ready = at .pre .1 .0 in
       let k : kindOf s (a .p) ≡ kind.choice = sym (m .before .before .before .kind .ensures) ∙ m .match .keys3 in
-      let x = m .before .field-b .ensures in
-      (omega (arith, x, choice-falls-b T s (ready .passes) (a .p) k), (ready, subst (PlainAt T s) (sym x) (choice-plain T s (a .p) (at .pre .1 .1) k .1)))
+      let x = m .before .field-b .ensures in (
+        omega (arith, x, choice-falls-b T s (ready .passes) (a .p) k),
+        (ready, subst (PlainAt T s) (sym x) (choice-plain T s (a .p) (at .pre .1 .1) k .1)),
+      )
 
   fits-returns-3 : fits-lts.Need-returns-3 fits-calls fits-at fits.Post
   fits-returns-3 c =
@@ -116,8 +136,10 @@ module _ (t : ℕ) where
       let T = stringTable (now (a .bytes)) (now (a .ends)) in
       let s = now (a .schema) in
       let b = m .before .field-b .ensures in
-      fits-but T s (a .p) (now (a .token)) (at .pre .1 .0 .passes) (sym (m .before .before .before .kind .ensures) ∙ m .match .keys1)
-      (λ z. c .before .if1 .left (b ∙ z)) (c .fits2 .result) (subst (λ (q : ℕ). DecidesAt T s q (string (now (a .token)) ∷ []) (c .fits2 .result)) b (c .fits2 .ensures))
+      fits-but T s (a .p) (now (a .token)) (at .pre .1 .0 .passes)
+      (sym (m .before .before .before .kind .ensures) ∙ m .match .keys1)
+      (λ z. c .before .if1 .left (b ∙ z)) (c .fits2 .result)
+      (subst (λ (q : ℕ). DecidesAt T s q (string (now (a .token)) ∷ []) (c .fits2 .result)) b (c .fits2 .ensures))
 
   fits-returns-4 : fits-lts.Need-returns-4 fits-calls fits-at fits.Post
   fits-returns-4 c =
@@ -127,8 +149,10 @@ module _ (t : ℕ) where
       let s = now (a .schema) in
       let r = c .same-value .result in
       fits-value T s (a .p) (now (a .token)) (sym (m .before .before .before .kind .ensures) ∙ m .match .keys2) r
-      (subst (λ (d : ℕ). Decides (datatypeEqual d (now (a .token)) (textOf T (bOf s (a .p)))) r) (m .before .before .field-a .ensures)
-      (subst (λ (v : ℕ). Decides (datatypeEqual (m .before .before .field-a .result) (now (a .token)) (textOf T v)) r) (m .before .field-b .ensures) (c .same-value .ensures)))
+      (subst (λ (d : ℕ). Decides (datatypeEqual d (now (a .token)) (textOf T (bOf s (a .p)))) r)
+      (m .before .before .field-a .ensures)
+      (subst (λ (v : ℕ). Decides (datatypeEqual (m .before .before .field-a .result) (now (a .token)) (textOf T v)) r)
+      (m .before .field-b .ensures) (c .same-value .ensures)))
 
   fits-returns-5 : fits-lts.Need-returns-5 fits-calls fits-at fits.Post
   fits-returns-5 c =
@@ -138,8 +162,10 @@ module _ (t : ℕ) where
       let s = now (a .schema) in
       let f = c .before .before .fits3 in
       fits-second T s (a .p) (now (a .token)) (sym (m .before .before .before .kind .ensures) ∙ m .match .keys3)
-      (subst (λ (q : ℕ). DecidesAt T s q (string (now (a .token)) ∷ []) (f .result)) (m .before .before .field-a .ensures) (f .ensures)) (c .before .if2 .left)
-      (c .fits4 .result) (subst (λ (q : ℕ). DecidesAt T s q (string (now (a .token)) ∷ []) (c .fits4 .result)) (m .before .field-b .ensures) (c .fits4 .ensures))
+      (subst (λ (q : ℕ). DecidesAt T s q (string (now (a .token)) ∷ []) (f .result))
+      (m .before .before .field-a .ensures) (f .ensures)) (c .before .if2 .left)
+      (c .fits4 .result) (subst (λ (q : ℕ). DecidesAt T s q (string (now (a .token)) ∷ []) (c .fits4 .result))
+      (m .before .field-b .ensures) (c .fits4 .ensures))
 
   fits-returns-6 : fits-lts.Need-returns-6 fits-calls fits-at fits.Post
   fits-returns-6 c =

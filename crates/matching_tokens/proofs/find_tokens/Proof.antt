@@ -12,7 +12,8 @@ use Rattle.matching_tokens.proofs.find_tokens.Statement.{statement}
 use Rattle.matching_tokens.proofs.find_tokens.Tie as tie
 
 abbrev Inv-loop : tie.InvT-loop
-Inv-loop bytes ends places₀ k₀ places k = (k ≤ length ends) × (length places ≡ length places₀) × PlacedTo (stringTable bytes ends) places k
+Inv-loop bytes ends places₀ k₀ places k =
+    (k ≤ length ends) × (length places ≡ length places₀) × PlacedTo (stringTable bytes ends) places k
 
 abbrev μ-loop : tie.MeasureT-loop
 μ-loop bytes ends places₀ k₀ places k = length ends - k
@@ -26,34 +27,50 @@ text-requires c κs = tt
 one-token-requires : tie.Need-one-token-requires Inv-loop μ-loop
 one-token-requires c κs =
     let a = c .before .before .before .before .before .before in
-    le-trans (subst (λ l. length l ≤ length (now (a .args .bytes))) (sym (c .text .ensures .holds)) (short-text (stringTable (now (a .args .bytes)) (now (a .args .ends))) (c .before .before .loop .k))) (a .pre .few-bytes)
+    le-trans (subst (λ l. length l ≤ length (now (a .args .bytes))) (sym (c .text .ensures .holds))
+    (short-text (stringTable (now (a .args .bytes)) (now (a .args .ends))) (c .before .before .loop .k)))
+    (a .pre .few-bytes)
 
 cast-places : tie.Need-cast-places Inv-loop μ-loop
 cast-places c = omega (arith, c .before .one-token .ensures .1)
 
 mul-places : tie.Need-mul-places Inv-loop μ-loop
-mul-places c = omega (arith, c .before .before .before .before .loop .inv, c .before .before .before .before .before .before .before .before .pre .long)
+mul-places c =
+    let d = c .before .before .before .before in
+    omega (arith, d .loop .inv, d .before .before .before .before .pre .long)
 
 mul-places-2 : tie.Need-mul-places-2 Inv-loop μ-loop
-mul-places-2 c = omega (arith, c .before .before .before .before .loop .inv, c .before .before .before .before .before .before .before .before .pre .long)
+mul-places-2 c =
+    let d = c .before .before .before .before in
+    omega (arith, d .loop .inv, d .before .before .before .before .pre .long)
 
 slice-write-places : tie.Need-slice-write-places Inv-loop μ-loop
-slice-write-places c = omega (arith, c .before .before .before .before .loop .inv .1, c .before .before .before .before .before .before .before .before .pre .long)
+slice-write-places c =
+    let d = c .before .before .before .before in
+    omega (arith, d .loop .inv .1, d .before .before .before .before .pre .long)
 
 cast-places-2 : tie.Need-cast-places-2 Inv-loop μ-loop
 cast-places-2 c = omega (arith, c .before .before .one-token .ensures .2)
 
 mul-places-3 : tie.Need-mul-places-3 Inv-loop μ-loop
-mul-places-3 c = omega (arith, c .before .before .before .before .before .loop .inv, c .before .before .before .before .before .before .before .before .before .pre .long)
+mul-places-3 c =
+    let d = c .before .before .before .before .before in
+    omega (arith, d .loop .inv, d .before .before .before .before .pre .long)
 
 add-places : tie.Need-add-places Inv-loop μ-loop
-add-places c = omega (arith, c .before .before .before .before .before .loop .inv, c .before .before .before .before .before .before .before .before .before .pre .long)
+add-places c =
+    let d = c .before .before .before .before .before in
+    omega (arith, d .loop .inv, d .before .before .before .before .pre .long)
 
 mul-places-4 : tie.Need-mul-places-4 Inv-loop μ-loop
-mul-places-4 c = omega (arith, c .before .before .before .before .before .loop .inv, c .before .before .before .before .before .before .before .before .before .pre .long)
+mul-places-4 c =
+    let d = c .before .before .before .before .before in
+    omega (arith, d .loop .inv, d .before .before .before .before .pre .long)
 
 slice-write-places-2 : tie.Need-slice-write-places-2 Inv-loop μ-loop
-slice-write-places-2 c = simp length-set (omega (arith, c .before .before .before .before .before .loop .inv .1, c .before .before .before .before .before .before .before .before .before .pre .long))
+slice-write-places-2 c =
+    let d = c .before .before .before .before .before in
+    simp length-set (omega (arith, d .loop .inv .1, d .before .before .before .before .pre .long))
 
 add-k : tie.Need-add-k Inv-loop μ-loop
 add-k c = omega arith
@@ -63,14 +80,16 @@ loop-less c = omega arith
 
 loop-again : tie.Need-loop-again Inv-loop μ-loop
 loop-again c =
-    let a = c .before .before .before .before .before .before .before .before .before in
-    let l = c .before .before .before .before .before .loop in
+    let d = c .before .before .before in
+    let a = d .before .before .before .before .before .before in
+    let l = d .before .before .loop in
     let o = c .before .before .one-token in
     let T = stringTable (now (a .args .bytes)) (now (a .args .ends)) in (
       omega arith,
       simp length-set (l .inv .1),
-      placed-more T (l .places) (l .k) (o .result .from) (o .result .to) (omega (arith, l .inv .1, a .pre .long)) (l .inv .2)
-          (subst (λ s. OneToken s (o .result .from) (o .result .to)) (c .before .before .before .text .ensures .holds) (o .ensures .0)),
+      placed-more T (l .places) (l .k) (o .result .from) (o .result .to)
+          (omega (arith, l .inv .1, a .pre .long)) (l .inv .2)
+          (subst (λ s. OneToken s (o .result .from) (o .result .to)) (d .text .ensures .holds) (o .ensures .0)),
     )
 
 same-length : tie.Need-same-length Inv-loop μ-loop

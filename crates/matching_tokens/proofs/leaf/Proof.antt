@@ -21,7 +21,11 @@ returns c =
     let f = c .before .before .before .before in
     let a = c .before .before .before .before .before .before .before .before .before .before .before .before .args in
     let e : a .enter ≡ true = f .before .if1 .taken in
-    record { stored = c .before .before .put .ensures; told = λ t takes right. rw e (told-same (f .fits2 .result) (takes (now (a .token))) (f .fits2 .ensures t) (right (now (a .token)))) }
+    record {
+      stored = c .before .before .put .ensures;
+      told = λ t takes right.
+          rw e (told-same (f .fits2 .result) (takes (now (a .token))) (f .fits2 .ensures t) (right (now (a .token))));
+    }
 
 put-requires-2 : tie.Need-put-requires-2
 put-requires-2 c κs = search needs
@@ -30,7 +34,10 @@ same-length-2 : tie.Need-same-length-2
 same-length-2 c = search needs
 
 returns-2 : tie.Need-returns-2
-returns-2 c = record { stored = c .before .before .put2 .ensures; told = λ t takes right. rw (c .before .before .before .before .if1 .left) refl }
+returns-2 c = record {
+  stored = c .before .before .put2 .ensures;
+  told = λ t takes right. rw (c .before .before .before .before .if1 .left) refl;
+}
 
 pub leaf-spec : {M : Type 1} → statement M
 leaf-spec =

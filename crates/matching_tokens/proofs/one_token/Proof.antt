@@ -17,8 +17,11 @@ skip-space-requires-2 c κs = search needs
 
 returns : tie.Need-returns
 returns c =
-    let b = c .before .before .before .skip-space .ensures in
-    (placed-none b (c .before .before .token-end .ensures) (c .before .skip-space2 .ensures) (c .if1 .taken), omega arith, omega arith)
+    let b = c .before .before .before .skip-space .ensures in (
+      placed-none b (c .before .before .token-end .ensures) (c .before .skip-space2 .ensures) (c .if1 .taken),
+      omega arith,
+      omega arith,
+    )
 
 returns-2 : tie.Need-returns-2
 returns-2 c =

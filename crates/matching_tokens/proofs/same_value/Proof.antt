@@ -23,7 +23,8 @@ returns : tie.Need-returns
 returns c =
     let a = c .before .before .before .before .before .before .before .args in
     by-string (a .datatype) (now (a .token)) _ (c .same-bytes .result) (c .before .if1 .taken)
-    (subst (λ (own : List ℕ). Decides (now (a .token) ≡ own) (c .same-bytes .result)) (c .before .before .text .ensures .holds) (c .same-bytes .ensures))
+    (subst (λ (own : List ℕ). Decides (now (a .token) ≡ own) (c .same-bytes .result))
+    (c .before .before .text .ensures .holds) (c .same-bytes .ensures))
 
 mul-word : tie.Need-mul-word
 mul-word c = search needs
@@ -54,14 +55,17 @@ same-bytes-requires-2 c κs = search needs
 
 returns-2 : tie.Need-returns-2
 returns-2 c =
-    let at = c .before .before .before .before .before .before .before .before .before .before in
+    let d = c .before .before .before .before in
+    let at = d .before .before .before .before .before .before in
     let a = at .args in
     let v = textOf (stringTable (now (a .bytes)) (now (a .ends))) (a .v) in
-    let own : now (c .before .before .before .before .before .text .result) ≡ v = c .before .before .before .before .before .text .ensures .holds in
+    let own : now (d .before .text .result) ≡ v = d .before .text .ensures .holds in
     let from = getD (now (a .places)) (a .v * 2) 0 in
     let to = getD (now (a .places)) (a .v * 2 + 1) 0 in
-    let one : now (c .before .part .result) ≡ between v from to = c .before .part .ensures .holds ∙ rw (own, c .before .before .before .word .ensures, c .before .before .word2 .ensures) refl in
-    by-token (a .datatype) v from to (c .same-bytes2 .result) (c .before .before .before .before .if1 .left) (at .pre .1) (at .pre .0 (a .v)) (subst (λ (p : List ℕ). Decides (p ≡ now (a .token)) (c .same-bytes2 .result)) one (c .same-bytes2 .ensures))
+    let one : now (c .before .part .result) ≡ between v from to = c .before .part .ensures .holds
+    ∙ rw (own, c .before .before .before .word .ensures, c .before .before .word2 .ensures) refl in
+    by-token (a .datatype) v from to (c .same-bytes2 .result) (d .if1 .left) (at .pre .1) (at .pre .0 (a .v))
+    (subst (λ (p : List ℕ). Decides (p ≡ now (a .token)) (c .same-bytes2 .result)) one (c .same-bytes2 .ensures))
 
 pub same-value-spec : {M : Type 1} → statement M
 same-value-spec =

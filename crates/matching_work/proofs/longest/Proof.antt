@@ -13,7 +13,8 @@ use Rattle.matching_work.proofs.longest.Statement.{statement}
 use Rattle.matching_work.proofs.longest.Tie as tie
 
 abbrev Inv-loop : tie.InvT-loop
-Inv-loop bytes ends instance nodes most₀ row₀ most row = (row ≤ nodes) × ((s : List ℕ) → most ≡ longestBefore (tablesOf (stringTable bytes ends) s instance) row)
+Inv-loop bytes ends instance nodes most₀ row₀ most row =
+    (row ≤ nodes) × ((s : List ℕ) → most ≡ longestBefore (tablesOf (stringTable bytes ends) s instance) row)
 
 abbrev μ-loop : tie.MeasureT-loop
 μ-loop bytes ends instance nodes most₀ row₀ most row = nodes - row
@@ -40,12 +41,14 @@ loop-less c = omega arith
 loop-again : tie.Need-loop-again Inv-loop μ-loop
 loop-again c = (
   omega arith,
-  λ s. c .larger .ensures ∙ longest-more _ _ (c .before .before .before .loop .inv .1 s) (c .before .value-length .ensures s),
+  λ s. c .larger .ensures
+      ∙ longest-more _ _ (c .before .before .before .loop .inv .1 s) (c .before .value-length .ensures s),
 )
 
 returns : tie.Need-returns Inv-loop μ-loop
 returns c = λ s.
-    let e : c .before .loop .row ≡ nodesOf (now (c .before .before .before .before .before .args .instance)) = omega arith in
+    let e : c .before .loop .row
+    ≡ nodesOf (now (c .before .before .before .before .before .args .instance)) = omega arith in
     rw (← e) (c .before .loop .inv .1 s)
 
 pub longest-spec : {M : Type 1} → statement M

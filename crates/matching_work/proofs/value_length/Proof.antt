@@ -20,10 +20,14 @@ string-length-requires-2 : tie.Need-string-length-requires-2
 string-length-requires-2 c κs = search needs
 
 returns : tie.Need-returns
-returns c = λ s. rw (← c .before .before .before .kind .ensures, c .before .before .match .keys1) (rw (c .before .field-c .ensures) at (c .string-length .ensures))
+returns c =
+    λ s. rw (← c .before .before .before .kind .ensures, c .before .before .match .keys1)
+    (rw (c .before .field-c .ensures) at (c .string-length .ensures))
 
 returns-2 : tie.Need-returns-2
-returns-2 c = λ s. rw (← c .before .before .before .kind .ensures, c .before .before .match .keys2) (rw (c .before .field-a .ensures) at (c .string-length2 .ensures))
+returns-2 c =
+    λ s. rw (← c .before .before .before .kind .ensures, c .before .before .match .keys2)
+    (rw (c .before .field-a .ensures) at (c .string-length2 .ensures))
 
 returns-3 : tie.Need-returns-3
 returns-3 c = λ s. rw (← c .before .kind .ensures, ne-eqb _ 2 (c .match .rest .0 .1), ne-eqb _ 3 (c .match .rest .1))

@@ -47,13 +47,18 @@ loop-less : tie.Need-loop-less Inv-loop μ-loop
 loop-less c = omega arith
 
 loop-again : tie.Need-loop-again Inv-loop μ-loop
-loop-again c = let g = c .before .before .before .before .loop .inv in write-more g (omega arith) (plus-row (c .before .before .before .before .before .before .pre .1) _ g (omega arith) refl (c .image .ensures))
+loop-again c =
+    let g = c .before .before .before .before .loop .inv in
+    write-more g (omega arith)
+    (plus-row (c .before .before .before .before .before .before .pre .1) _ g (omega arith) refl (c .image .ensures))
 
 same-length : tie.Need-same-length Inv-loop μ-loop
 same-length c = c .before .loop .inv .rest .size
 
 returns : tie.Need-returns Inv-loop μ-loop
-returns c = let g = c .before .loop .inv in (written g (c .loop-test .left) (plus-low _ (c .before .before .before .args .w .now)), g .rest)
+returns c =
+    let g = c .before .loop .inv in
+    (written g (c .loop-test .left) (plus-low _ (c .before .before .before .args .w .now)), g .rest)
 
 pub close-spec : {M : Type 1} → statement M
 close-spec =

@@ -12,7 +12,8 @@ use Rattle.relations.proofs.compose.Statement.{statement}
 use Rattle.relations.proofs.compose.Tie as tie
 
 abbrev Inv-loop : tie.InvT-loop
-Inv-loop m w₀ i₀ end w i = WrittenWords m (Then (WordsRelate (front m w₀)) (WordsRelate (next m w₀))) w₀ w i × (end ≡ positions + m)
+Inv-loop m w₀ i₀ end w i =
+    WrittenWords m (Then (WordsRelate (front m w₀)) (WordsRelate (next m w₀))) w₀ w i × (end ≡ positions + m)
 
 abbrev μ-loop : tie.MeasureT-loop
 μ-loop m w₀ i₀ end w i = i
@@ -56,14 +57,20 @@ loop-less c = omega arith
 loop-again : tie.Need-loop-again Inv-loop μ-loop
 loop-again c = let s = c .before .before .before .before .before .before .before .args in
     let l = c .before .before .before .before .before .loop in
-    let g = l .inv .0 in
-    (write-more g (omega arith) (then-row (s .m) (s .w .now) (l .w) (omega (arith, g .within)) (g .before _ (omega arith)) (next-kept g) (l .inv .1) (c .image .ensures)), l .inv .1)
+    let g = l .inv .0 in (
+      write-more g (omega arith) (then-row (s .m) (s .w .now) (l .w) (omega (arith, g .within))
+          (g .before _ (omega arith)) (next-kept g) (l .inv .1) (c .image .ensures)),
+      l .inv .1,
+    )
 
 same-length : tie.Need-same-length Inv-loop μ-loop
 same-length c = c .before .loop .inv .0 .rest .size
 
 returns : tie.Need-returns Inv-loop μ-loop
-returns c = (written (c .before .loop .inv .0) (c .loop-test .left) (then-low _ (c .before .before .before .args .w .now)), c .before .loop .inv .0 .rest)
+returns c = (
+  written (c .before .loop .inv .0) (c .loop-test .left) (then-low _ (c .before .before .before .args .w .now)),
+  c .before .loop .inv .0 .rest,
+)
 
 pub compose-spec : {M : Type 1} → statement M
 compose-spec =

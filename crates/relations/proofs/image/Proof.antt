@@ -28,7 +28,8 @@ loop-less : tie.Need-loop-less Inv-loop μ-loop
 loop-less c = rest-lt (c .before .before .before .loop .rest) (omega arith)
 
 loop-again : tie.Need-loop-again Inv-loop μ-loop
-loop-again c = gather-more (c .before .before .before .loop .inv) (omega arith) (c .before .first .ensures) (c .word .ensures)
+loop-again c =
+    gather-more (c .before .before .before .loop .inv) (omega arith) (c .before .first .ensures) (c .word .ensures)
 
 returns : tie.Need-returns Inv-loop μ-loop
 returns c = gathered (c .before .loop .inv) (c .loop-test .left)

@@ -11,10 +11,22 @@ has-requires-2 : tie.Need-has-requires-2
 has-requires-2 c κs = search needs
 
 returns : tie.Need-returns
-returns c = rw (← c .before .before .before .has .ensures, c .before .before .if1 .taken, ← c .before .has2 .ensures, c .if2 .taken) refl
+returns c =
+    rw (
+      ← c .before .before .before .has .ensures,
+      c .before .before .if1 .taken,
+      ← c .before .has2 .ensures,
+      c .if2 .taken,
+    ) refl
 
 returns-2 : tie.Need-returns-2
-returns-2 c = rw (← c .before .before .before .has .ensures, c .before .before .if1 .taken, ← c .before .has2 .ensures, c .if2 .left) refl
+returns-2 c =
+    rw (
+      ← c .before .before .before .has .ensures,
+      c .before .before .if1 .taken,
+      ← c .before .has2 .ensures,
+      c .if2 .left,
+    ) refl
 
 returns-3 : tie.Need-returns-3
 returns-3 c = rw (← c .before .has .ensures, c .if1 .left) refl

@@ -8,7 +8,8 @@ use Rattle.relations.proofs.singles.Statement.{statement}
 use Rattle.relations.proofs.singles.Tie as tie
 
 abbrev Inv-loop : tie.InvT-loop
-Inv-loop m all marked w₀ gap₀ single₀ i₀ w gap single i = WrittenWords m (Single m all marked) w₀ w i × Row (Gap m all) i gap × Row (Single m all marked) i single
+Inv-loop m all marked w₀ gap₀ single₀ i₀ w gap single i =
+    WrittenWords m (Single m all marked) w₀ w i × Row (Gap m all) i gap × Row (Single m all marked) i single
 
 abbrev μ-loop : tie.MeasureT-loop
 μ-loop m all marked w₀ gap₀ single₀ i₀ w gap single i = i
@@ -39,8 +40,11 @@ loop-less c = omega arith
 
 loop-again : tie.Need-loop-again Inv-loop μ-loop
 loop-again c = let g = c .before .before .before .loop .inv in
-    let row = single-row _ _ _ _ (g .1) (g .2) (omega arith) (c .before .single-word .ensures) in
-    (write-more (g .0) (omega arith) row, gap-row _ _ _ (g .1) (omega arith) (omega (arith, g .0 .within)) (c .gap-word .ensures), row)
+    let row = single-row _ _ _ _ (g .1) (g .2) (omega arith) (c .before .single-word .ensures) in (
+      write-more (g .0) (omega arith) row,
+      gap-row _ _ _ (g .1) (omega arith) (omega (arith, g .0 .within)) (c .gap-word .ensures),
+      row,
+    )
 
 same-length : tie.Need-same-length Inv-loop μ-loop
 same-length c = c .before .loop .inv .0 .rest .size

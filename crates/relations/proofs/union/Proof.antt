@@ -46,13 +46,17 @@ loop-less c = omega arith
 loop-again : tie.Need-loop-again Inv-loop μ-loop
 loop-again c = let s = c .before .before .before .before .args in
     let g = c .before .before .before .loop .inv in
-    write-more g (omega arith) (or-row (s .m) (s .w .now) (omega (arith, g .within)) (g .before _ (omega arith)) (kept g _))
+    write-more g (omega arith)
+    (or-row (s .m) (s .w .now) (omega (arith, g .within)) (g .before _ (omega arith)) (kept g _))
 
 same-length : tie.Need-same-length Inv-loop μ-loop
 same-length c = c .before .loop .inv .rest .size
 
 returns : tie.Need-returns Inv-loop μ-loop
-returns c = (written (c .before .loop .inv) (c .loop-test .left) (or-low _ (c .before .before .args .w .now)), c .before .loop .inv .rest)
+returns c = (
+  written (c .before .loop .inv) (c .loop-test .left) (or-low _ (c .before .before .args .w .now)),
+  c .before .loop .inv .rest,
+)
 
 pub union-spec : {M : Type 1} → statement M
 union-spec =

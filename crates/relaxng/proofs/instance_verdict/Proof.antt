@@ -29,16 +29,25 @@ refusal-requires : tie.Need-refusal-requires
 refusal-requires c κs = search needs
 
 returns-2 : tie.Need-returns-2
-returns-2 c = nodes-stop (c .before .before .before .before .enum-told .given .1) (c .before .before .before .before .before .before .schema-verdict .ensures) (c .before .before .before .check-nodes .ensures) (c .before .enum-told4 .given .1) (c .refusal .ensures)
+returns-2 c =
+    nodes-stop (c .before .before .before .before .enum-told .given .1)
+    (c .before .before .before .before .before .before .schema-verdict .ensures)
+    (c .before .before .before .check-nodes .ensures) (c .before .enum-told4 .given .1) (c .refusal .ensures)
 
 check-width-requires : tie.Need-check-width-requires
-check-width-requires c κs = nodes-few _ _ (c .before .before .check-nodes .result) (c .before .before .check-nodes .ensures) (c .enum-told3 .given .1)
+check-width-requires c κs =
+    nodes-few _ _ (c .before .before .check-nodes .result)
+    (c .before .before .check-nodes .ensures) (c .enum-told3 .given .1)
 
 refusal-requires-2 : tie.Need-refusal-requires-2
 refusal-requires-2 c κs = search needs
 
 returns-3 : tie.Need-returns-3
-returns-3 c = nodes-on (c .before .check-width .result) (c .before .before .before .before .before .enum-told .given .1) (c .before .before .before .before .before .before .before .schema-verdict .ensures) (c .before .before .before .before .check-nodes .ensures) (c .before .before .enum-told3 .given .1) (c .before .check-width .ensures) (c .refusal2 .ensures)
+returns-3 c =
+    nodes-on (c .before .check-width .result) (c .before .before .before .before .before .enum-told .given .1)
+    (c .before .before .before .before .before .before .before .schema-verdict .ensures)
+    (c .before .before .before .before .check-nodes .ensures)
+    (c .before .before .enum-told3 .given .1) (c .before .check-width .ensures) (c .refusal2 .ensures)
 
 pub instance-verdict-spec : {M : Type 1} → statement M
 instance-verdict-spec =

@@ -31,11 +31,15 @@ same-length-2 c = search needs
 
 returns : tie.Need-returns
 returns c =
-    refused-list _ _ (c .before .before .before .before .before .before .before .before .before .before .work-verdict .ensures .0) (c .before .before .before .before .before .before .before .before .before .before .work-verdict .ensures .1) (c .before .before .before .before .before .before .enum-told2 .given .1) (c .before .code-of .ensures) (c .place-of .ensures) refl
+    let d = c .before .before .before .before .before .before in
+    refused-list _ _ (d .before .before .before .before .work-verdict .ensures .0)
+    (d .before .before .before .before .work-verdict .ensures .1)
+    (d .enum-told2 .given .1) (c .before .code-of .ensures) (c .place-of .ensures) refl
     (c .before .before .before .before .zero-u32 .ensures)
 
 match-pairs-requires : tie.Need-match-pairs-requires
-match-pairs-requires c κs = tables-pass (c .before .enum-told .given .1) (c .before .before .before .before .before .work-verdict .ensures .0)
+match-pairs-requires c κs =
+    tables-pass (c .before .enum-told .given .1) (c .before .before .before .before .before .work-verdict .ensures .0)
 
 matches-of-requires : tie.Need-matches-of-requires
 matches-of-requires c κs = search needs
@@ -48,7 +52,11 @@ same-length-4 c = search needs
 
 returns-2 : tie.Need-returns-2
 returns-2 c =
-    whole-list _ _ (c .before .before .before .before .before .before .before .before .before .work-verdict .ensures .0) (c .before .before .before .before .before .before .before .before .before .work-verdict .ensures .1) (c .before .before .before .before .before .enum-told .given .1) (c .before .before .before .match-pairs .result) (c .before .before .before .match-pairs .ensures) (c .matches-of .ensures)
+    whole-list _ _ (c .before .before .before .before .before .before .before .before .before .work-verdict .ensures .0)
+    (c .before .before .before .before .before .before .before .before .before .work-verdict .ensures .1)
+    (c .before .before .before .before .before .enum-told .given .1)
+    (c .before .before .before .match-pairs .result)
+    (c .before .before .before .match-pairs .ensures) (c .matches-of .ensures)
 
 pub match-list-spec : {M : Type 1} → statement M
 match-list-spec =

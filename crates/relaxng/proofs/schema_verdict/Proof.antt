@@ -17,13 +17,15 @@ refusal-requires : tie.Need-refusal-requires
 refusal-requires c κs = search needs
 
 returns : tie.Need-returns
-returns c = stops 1 (c .before .before .before .check-strings .ensures) (c .before .enum-told2 .given .1) (c .refusal .ensures)
+returns c =
+    stops 1 (c .before .before .before .check-strings .ensures) (c .before .enum-told2 .given .1) (c .refusal .ensures)
 
 check-schema-requires : tie.Need-check-schema-requires
 check-schema-requires c κs = search needs
 
 returns-2 : tie.Need-returns-2
-returns-2 c = on 1 (c .before .before .before .check-strings .ensures) (c .before .enum-told .given .1) (c .check-schema .ensures)
+returns-2 c =
+    on 1 (c .before .before .before .check-strings .ensures) (c .before .enum-told .given .1) (c .check-schema .ensures)
 
 pub schema-verdict-spec : {M : Type 1} → statement M
 schema-verdict-spec =

@@ -26,22 +26,32 @@ same-length : tie.Need-same-length
 same-length c = search needs
 
 returns : tie.Need-returns
-returns c = refused-verdict _ (c .before .before .before .before .before .before .work-verdict .ensures .1) (c .before .before .before .before .before .before .work-verdict .ensures .0) (c .before .before .enum-told2 .given .1) (c .before .code-of .ensures) (c .place-of .ensures) refl
+returns c =
+    refused-verdict _ (c .before .before .before .before .before .before .work-verdict .ensures .1)
+    (c .before .before .before .before .before .before .work-verdict .ensures .0)
+    (c .before .before .enum-told2 .given .1) (c .before .code-of .ensures) (c .place-of .ensures) refl
 
 is-valid-requires : tie.Need-is-valid-requires
-is-valid-requires c κs = tables-pass (c .enum-told .given .1) (c .before .before .before .before .work-verdict .ensures .0)
+is-valid-requires c κs =
+    tables-pass (c .enum-told .given .1) (c .before .before .before .before .work-verdict .ensures .0)
 
 same-length-2 : tie.Need-same-length-2
 same-length-2 c = search needs
 
 returns-2 : tie.Need-returns-2
-returns-2 c = whole-verdict _ (c .before .before .before .before .before .before .work-verdict .ensures .1) (c .before .before .before .before .before .before .work-verdict .ensures .0) (c .before .before .enum-told .given .1) true (subst (Decides _) (c .if1 .taken) (c .before .is-valid .ensures)) refl
+returns-2 c =
+    let d = c .before .before .before .before .before .before in
+    whole-verdict _ (d .work-verdict .ensures .1) (d .work-verdict .ensures .0) (c .before .before .enum-told .given .1)
+    true (subst (Decides _) (c .if1 .taken) (c .before .is-valid .ensures)) refl
 
 same-length-3 : tie.Need-same-length-3
 same-length-3 c = search needs
 
 returns-3 : tie.Need-returns-3
-returns-3 c = whole-verdict _ (c .before .before .before .before .before .before .work-verdict .ensures .1) (c .before .before .before .before .before .before .work-verdict .ensures .0) (c .before .before .enum-told .given .1) false (subst (Decides _) (c .if1 .left) (c .before .is-valid .ensures)) refl
+returns-3 c =
+    let d = c .before .before .before .before .before .before in
+    whole-verdict _ (d .work-verdict .ensures .1) (d .work-verdict .ensures .0) (c .before .before .enum-told .given .1)
+    false (subst (Decides _) (c .if1 .left) (c .before .is-valid .ensures)) refl
 
 pub verdict-spec : {M : Type 1} → statement M
 verdict-spec =

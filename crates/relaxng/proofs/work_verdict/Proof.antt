@@ -23,7 +23,10 @@ same-length : tie.Need-same-length
 same-length c = search needs
 
 returns : tie.Need-returns
-returns c = (work-refused _ (c .enum-told2 .given .1) (c .before .before .instance-verdict .ensures), c .before .before .before .before .before .zero-u8 .ensures)
+returns c = (
+  work-refused _ (c .enum-told2 .given .1) (c .before .before .instance-verdict .ensures),
+  c .before .before .before .before .before .zero-u8 .ensures,
+)
 
 check-work-requires : tie.Need-check-work-requires
 check-work-requires c κs =
@@ -37,8 +40,12 @@ same-length-2 : tie.Need-same-length-2
 same-length-2 c = search needs
 
 returns-2 : tie.Need-returns-2
-returns-2 c =
-    (work-judged _ (c .before .check-work .result) (c .before .before .enum-told .given .1) (c .before .before .before .before .instance-verdict .ensures) (c .before .check-work .ensures) (c .refusal .ensures), c .before .before .before .before .before .before .before .zero-u8 .ensures)
+returns-2 c = (
+  work-judged _ (c .before .check-work .result) (c .before .before .enum-told .given .1)
+      (c .before .before .before .before .instance-verdict .ensures)
+      (c .before .check-work .ensures) (c .refusal .ensures),
+  c .before .before .before .before .before .before .before .zero-u8 .ensures,
+)
 
 pub work-verdict-spec : {M : Type 1} → statement M
 work-verdict-spec =

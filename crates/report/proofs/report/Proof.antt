@@ -46,31 +46,91 @@ cast-bytes : tie.Need-cast-bytes
 cast-bytes c = search needs
 
 array-share-prefix-bytes : tie.Need-array-share-prefix-bytes
-array-share-prefix-bytes c = let w = within (subst (Told (now (c .before .before .before .before .before .before .before .before .before .before .before .before .before .before .args .file))) (c .before .job .given .1) (told (now (c .before .before .before .before .before .before .before .before .before .before .before .before .before .before .args .file)) (c .before .before .before .before .before .before .before .read-job .ensures .0))) in let f = w .few-bytes in let l = c .before .before .before .before .before .before .bytes2 .given in omega arith
+array-share-prefix-bytes c =
+    let d = c .before .before .before .before .before .before in
+    let a = d .before .before .before .before .before .before .before .before .args in
+    let w = within (subst (Told (now (a .file))) (c .before .job .given .1)
+    (told (now (a .file)) (d .before .read-job .ensures .0))) in
+    let f = w .few-bytes in
+    let l = d .bytes2 .given in
+    omega arith
 
 slice-aggregate-answer : tie.Need-slice-aggregate-answer
-slice-aggregate-answer c = let w = within (subst (Told (now (c .before .before .before .before .before .before .before .before .before .before .before .before .before .before .before .args .file))) (c .before .before .job .given .1) (told (now (c .before .before .before .before .before .before .before .before .before .before .before .before .before .before .before .args .file)) (c .before .before .before .before .before .before .before .before .read-job .ensures .0))) in let f = w .few-bytes in let l = c .before .before .before .before .before .before .before .bytes2 .given in sym (length-take-le _ (c .before .before .before .before .before .before .before .before .read-job .last .1 .0) (omega arith))
+slice-aggregate-answer c =
+    let d = c .before .before .before .before .before .before .before in
+    let a = d .before .before .before .before .before .before .before .before .args in
+    let w = within (subst (Told (now (a .file))) (c .before .before .job .given .1)
+    (told (now (a .file)) (d .before .read-job .ensures .0))) in
+    let f = w .few-bytes in
+    let l = d .bytes2 .given in
+    sym (length-take-le _ (d .before .read-job .last .1 .0) (omega arith))
 
 cast-ends : tie.Need-cast-ends
 cast-ends c = search needs
 
 array-share-prefix-ends : tie.Need-array-share-prefix-ends
-array-share-prefix-ends c = let w = within (subst (Told (now (c .before .before .before .before .before .before .before .before .before .before .before .before .before .before .before .args .file))) (c .before .before .job .given .1) (told (now (c .before .before .before .before .before .before .before .before .before .before .before .before .before .before .before .args .file)) (c .before .before .before .before .before .before .before .before .read-job .ensures .0))) in let f = w .few-strings in let l = c .before .before .before .before .before .before .ends2 .given in omega arith
+array-share-prefix-ends c =
+    let d = c .before .before .before .before .before .before in
+    let a = d .before .before .before .before .before .before .before .before .before .args in
+    let w = within (subst (Told (now (a .file))) (c .before .before .job .given .1)
+    (told (now (a .file)) (d .before .before .read-job .ensures .0))) in
+    let f = w .few-strings in
+    let l = d .ends2 .given in
+    omega arith
 
 slice-aggregate-answer-2 : tie.Need-slice-aggregate-answer-2
-slice-aggregate-answer-2 c = let w = within (subst (Told (now (c .before .before .before .before .before .before .before .before .before .before .before .before .before .before .before .before .args .file))) (c .before .before .before .job .given .1) (told (now (c .before .before .before .before .before .before .before .before .before .before .before .before .before .before .before .before .args .file)) (c .before .before .before .before .before .before .before .before .before .read-job .ensures .0))) in let f = w .few-strings in let l = c .before .before .before .before .before .before .before .ends2 .given in sym (length-take-le _ (c .before .before .before .before .before .before .before .before .before .read-job .last .1 .1 .0) (omega arith))
+slice-aggregate-answer-2 c =
+    let d = c .before .before .before .before .before .before .before in
+    let a = d .before .before .before .before .before .before .before .before .before .args in
+    let w = within (subst (Told (now (a .file))) (c .before .before .before .job .given .1)
+    (told (now (a .file)) (d .before .before .read-job .ensures .0))) in
+    let f = w .few-strings in
+    let l = d .ends2 .given in
+    sym (length-take-le _ (d .before .before .read-job .last .1 .1 .0) (omega arith))
 
 array-share-prefix-schema : tie.Need-array-share-prefix-schema
-array-share-prefix-schema c = let w = within (subst (Told (now (c .before .before .before .before .before .before .before .before .before .before .before .before .before .before .before .before .args .file))) (c .before .before .before .job .given .1) (told (now (c .before .before .before .before .before .before .before .before .before .before .before .before .before .before .before .before .args .file)) (c .before .before .before .before .before .before .before .before .before .read-job .ensures .0))) in let f = w .few-rows in let l = c .before .before .before .before .before .before .schema2 .given in omega arith
+array-share-prefix-schema c =
+    let c₁ = c .before .before .before .before .before .before in
+    let c₂ = c₁ .before .before .before in
+    let a = c₂ .before .before .before .before .before .before .before .args in
+    let w = within (subst (Told (now (a .file))) (c .before .before .before .job .given .1)
+    (told (now (a .file)) (c₂ .read-job .ensures .0))) in
+    let f = w .few-rows in
+    let l = c₁ .schema2 .given in
+    omega arith
 
 slice-aggregate-answer-3 : tie.Need-slice-aggregate-answer-3
-slice-aggregate-answer-3 c = let w = within (subst (Told (now (c .before .before .before .before .before .before .before .before .before .before .before .before .before .before .before .before .before .args .file))) (c .before .before .before .before .job .given .1) (told (now (c .before .before .before .before .before .before .before .before .before .before .before .before .before .before .before .before .before .args .file)) (c .before .before .before .before .before .before .before .before .before .before .read-job .ensures .0))) in let f = w .few-rows in let l = c .before .before .before .before .before .before .before .schema2 .given in sym (length-take-le _ (c .before .before .before .before .before .before .before .before .before .before .read-job .last .1 .1 .1 .0) (omega arith))
+slice-aggregate-answer-3 c =
+    let c₁ = c .before .before .before .before in
+    let c₂ = c₁ .before .before .before .before .before .before in
+    let a = c₂ .before .before .before .before .before .before .before .args in
+    let w =
+    within (subst (Told (now (a .file))) (c₁ .job .given .1) (told (now (a .file)) (c₂ .read-job .ensures .0))) in
+    let f = w .few-rows in
+    let l = c₁ .before .before .before .schema2 .given in
+    sym (length-take-le _ (c₂ .read-job .last .1 .1 .1 .0) (omega arith))
 
 array-share-prefix-instance : tie.Need-array-share-prefix-instance
-array-share-prefix-instance c = let w = within (subst (Told (now (c .before .before .before .before .before .before .before .before .before .before .before .before .before .before .before .before .before .args .file))) (c .before .before .before .before .job .given .1) (told (now (c .before .before .before .before .before .before .before .before .before .before .before .before .before .before .before .before .before .args .file)) (c .before .before .before .before .before .before .before .before .before .before .read-job .ensures .0))) in let f = w .few-nodes in let l = c .before .before .before .before .before .before .instance2 .given in omega arith
+array-share-prefix-instance c =
+    let c₁ = c .before .before .before .before in
+    let c₂ = c₁ .before .before .before .before .before .before in
+    let a = c₂ .before .before .before .before .before .before .before .args in
+    let w =
+    within (subst (Told (now (a .file))) (c₁ .job .given .1) (told (now (a .file)) (c₂ .read-job .ensures .0))) in
+    let f = w .few-nodes in
+    let l = c₁ .before .before .instance2 .given in
+    omega arith
 
 slice-aggregate-answer-4 : tie.Need-slice-aggregate-answer-4
-slice-aggregate-answer-4 c = let w = within (subst (Told (now (c .before .before .before .before .before .before .before .before .before .before .before .before .before .before .before .before .before .before .args .file))) (c .before .before .before .before .before .job .given .1) (told (now (c .before .before .before .before .before .before .before .before .before .before .before .before .before .before .before .before .before .before .args .file)) (c .before .before .before .before .before .before .before .before .before .before .before .read-job .ensures .0))) in let f = w .few-nodes in let l = c .before .before .before .before .before .before .before .instance2 .given in sym (length-take-le _ (c .before .before .before .before .before .before .before .before .before .before .before .read-job .last .1 .1 .1 .1 .0) (omega arith))
+slice-aggregate-answer-4 c =
+    let c₁ = c .before .before .before .before .before in
+    let c₂ = c₁ .before .before .before .before .before .before in
+    let a = c₂ .before .before .before .before .before .before .before .args in
+    let w =
+    within (subst (Told (now (a .file))) (c₁ .job .given .1) (told (now (a .file)) (c₂ .read-job .ensures .0))) in
+    let f = w .few-nodes in
+    let l = c₁ .before .before .instance2 .given in
+    sym (length-take-le _ (c₂ .read-job .last .1 .1 .1 .1 .0) (omega arith))
 
 answer-requires : tie.Need-answer-requires
 answer-requires c κs = search needs
@@ -85,13 +145,22 @@ same-length : tie.Need-same-length
 same-length c = search needs
 
 returns : tie.Need-returns
-returns c = and-within (report-read (subst (Told (now (c .before .before .before .before .before .before .before .before .before .before .before .before .before .before .before .before .before .before .before .before .before .before .args .file))) (c .before .before .before .before .before .before .before .before .before .job .given .1) (told (now (c .before .before .before .before .before .before .before .before .before .before .before .before .before .before .before .before .before .before .before .before .before .before .args .file)) (c .before .before .before .before .before .before .before .before .before .before .before .before .before .before .before .read-job .ensures .0))) (c .before .before .before .before .before .before .before .before .before .before .before .before .before .before .before .read-job .ensures .1) (c .before .before .answer .ensures))
+returns c =
+    let c₁ = c .before .before .before .before .before .before .before .before .before in
+    let c₂ = c₁ .before .before .before .before .before .before in
+    let a = c₂ .before .before .before .before .before .before .before .args in
+    and-within (report-read (subst (Told (now (a .file))) (c₁ .job .given .1) (told (now (a .file))
+    (c₂ .read-job .ensures .0))) (c₂ .read-job .ensures .1) (c .before .before .answer .ensures))
 
 same-length-2 : tie.Need-same-length-2
 same-length-2 c = search needs
 
 returns-2 : tie.Need-returns-2
-returns-2 c = and-within (report-wrong (subst (Told (now (c .before .before .before .before .before .before .before .before .before .before .before .before .before .before .before .before .before .before .args .file))) (c .before .before .before .before .before .job2 .given .1) (told (now (c .before .before .before .before .before .before .before .before .before .before .before .before .before .before .before .before .before .before .args .file)) (c .before .before .before .before .before .before .before .before .before .before .before .read-job .ensures .0))) (c .before .before .write-refusal .ensures))
+returns-2 c =
+    let d = c .before .before .before .before .before .before .before .before .before .before .before in
+    let a = d .before .before .before .before .before .before .before .args in
+    and-within (report-wrong (subst (Told (now (a .file))) (c .before .before .before .before .before .job2 .given .1)
+    (told (now (a .file)) (d .read-job .ensures .0))) (c .before .before .write-refusal .ensures))
 
 pub report-spec : {M : Type 1} → statement M
 report-spec =

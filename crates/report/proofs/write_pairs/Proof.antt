@@ -13,10 +13,14 @@ mul-words : tie.Need-mul-words
 mul-words c = search needs
 
 slice-aggregate-write-matches : tie.Need-slice-aggregate-write-matches
-slice-aggregate-write-matches c = sym (length-take-le (c .before .before .before .args .pairs * 2) (c .before .before .before .args .list .now) (omega arith))
+slice-aggregate-write-matches c =
+    let a = c .before .before .before .args in
+    sym (length-take-le (a .pairs * 2) (a .list .now) (omega arith))
 
 write-matches-requires : tie.Need-write-matches-requires
-write-matches-requires c κs = let e = length-take-le (c .before .before .before .before .args .pairs * 2) (c .before .before .before .before .args .list .now) (omega arith) in (omega arith, omega arith)
+write-matches-requires c κs =
+    let a = c .before .before .before .before .args in
+    let e = length-take-le (a .pairs * 2) (a .list .now) (omega arith) in (omega arith, omega arith)
 
 same-length : tie.Need-same-length
 same-length c = search needs

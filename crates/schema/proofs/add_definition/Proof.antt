@@ -23,12 +23,15 @@ same-length c = search needs
 
 returns : tie.Need-returns
 returns c = let s = c .before .before .before .before .before .before .before .before .args in
-    let z : isDefinition (now (s .schema)) (s .d) ≡ true = is-definition (now (s .schema)) (s .d) (sym (c .before .before .before .before .before .kind .ensures) ∙ c .before .before .before .before .if1 .taken) in
+    let z : isDefinition (now (s .schema)) (s .d)
+    ≡ true = is-definition (now (s .schema)) (s .d) (sym (c .before .before .before .before .before .kind .ensures)
+    ∙ c .before .before .before .before .if1 .taken) in
     (rw z, c .before .before .put-u32 .ensures ∙ rw z)
 
 returns-2 : tie.Need-returns-2
 returns-2 c = let s = c .before .before .before .before .args in
-    let z : isDefinition (now (s .schema)) (s .d) ≡ false = no-definition (now (s .schema)) (s .d) (λ e. c .if1 .left (c .before .kind .ensures ∙ e)) in
+    let z : isDefinition (now (s .schema)) (s .d)
+    ≡ false = no-definition (now (s .schema)) (s .d) (λ e. c .if1 .left (c .before .kind .ensures ∙ e)) in
     (rw z (omega arith), rw z)
 
 pub add-definition-spec : {M : Type 1} → statement M

@@ -12,7 +12,8 @@ use Rattle.schema.proofs.definitions.Statement.{statement}
 use Rattle.schema.proofs.definitions.Tie as tie
 
 abbrev Inv-loop : tie.InvT-loop
-Inv-loop schema rows₀ all n₀ d₀ rows n d = (d ≤ all) × (length rows ≡ length rows₀) × DefinitionsBefore schema rows n d × (drop n rows ≡ drop n rows₀)
+Inv-loop schema rows₀ all n₀ d₀ rows n d =
+    (d ≤ all) × (length rows ≡ length rows₀) × DefinitionsBefore schema rows n d × (drop n rows ≡ drop n rows₀)
 
 abbrev μ-loop : tie.MeasureT-loop
 μ-loop schema rows₀ all n₀ d₀ rows n d = all - d
@@ -37,7 +38,8 @@ loop-again c =
     let i = c .before .before .before .before .before .loop .inv in
     let x = i .2 .few in
     let y = i .1 in
-    let more = definitions-more (i .2) (omega arith) _ (i .3) (c .before .before .add-definition .ensures .0) (c .before .before .add-definition .ensures .1) in
+    let more = definitions-more (i .2) (omega arith) _ (i .3)
+    (c .before .before .add-definition .ensures .0) (c .before .before .add-definition .ensures .1) in
     (omega arith, more .0 ∙ i .1, more .1, more .2)
 
 same-length : tie.Need-same-length Inv-loop μ-loop

@@ -60,7 +60,8 @@ returns-3 : tie.Need-returns-3
 returns-3 c = rw (c .before .enum-told3 .given .1, eq-eqb _ _ (c .if1 .taken))
 
 returns-4 : tie.Need-returns-4
-returns-4 c = c .pattern-below2 .ensures ∙ rw (c .before .before .enum-told3 .given .1, ne-eqb _ _ (c .before .if1 .left))
+returns-4 c =
+    c .pattern-below2 .ensures ∙ rw (c .before .before .enum-told3 .given .1, ne-eqb _ _ (c .before .if1 .left))
 
 returns-5 : tie.Need-returns-5
 returns-5 c = c .class-below .ensures ∙ rw (c .before .enum-told4 .given .1)

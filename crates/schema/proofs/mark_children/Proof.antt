@@ -21,8 +21,9 @@ same-length c = search needs
 
 returns : tie.Need-returns
 returns c =
+    let d = c .before .before .before .before .before .before .before in
     c .before .before .mark-if2 .ensures
-    ∙ rw (c .before .before .before .child-b .ensures, c .before .before .before .before .before .before .before .mark-if .ensures, c .before .before .before .before .before .before .before .before .child-a .ensures)
+    ∙ rw (c .before .before .before .child-b .ensures, d .mark-if .ensures, d .before .child-a .ensures)
 
 pub mark-children-spec : {M : Type 1} → statement M
 mark-children-spec =

@@ -107,19 +107,24 @@ returns-12 c = c .made12 .ensures ∙ rw (c .before .match .keys12)
 
 returns-13 : tie.Need-returns-13
 unfolding shapeOf
-returns-13 c = c .made13 .ensures ∙ rw (inside kind.empty kind.text (c .before .before .before .before .args .kind) (omega arith) (omega arith))
+returns-13 c =
+    c .made13 .ensures
+    ∙ rw (inside kind.empty kind.text (c .before .before .before .before .args .kind) (omega arith) (omega arith))
 
 returns-14 : tie.Need-returns-14
 returns-14 c =
-    let k = c .before .before .before .before .before .args .kind in
-    let low : kind.choice ≤ k = past-oneOrMore k (c .before .before .if2 .left) (c .before .before .before .before .match .rest) in
+    let d = c .before .before .before .before in
+    let k = d .before .args .kind in
+    let low : kind.choice ≤ k = past-oneOrMore k (c .before .before .if2 .left) (d .match .rest) in
     c .made14 .ensures ∙ sym (shape-binary k low (le-of-suc-le-suc (c .before .if3 .taken)))
 
 returns-15 : tie.Need-returns-15
 returns-15 c =
     let k = c .before .before .before .args .kind in
-    let bad : (k < kind.empty) ⊎ (kind.text < k) → (k < kind.choice) ⊎ (kind.interleave < k) → c .made15 .result ≡ shapeOf k = λ p q. c .made15 .ensures ∙ sym (shape-bad k p q (c .before .before .match .rest)) in
-    ⊎-elim (λ w. bad (inl (w .taken)) (inl (le-trans (w .taken) (lit≤ tt)))) (λ w. bad (inr (w .1 .left)) (inr (w .2 .left))) (c .before .if1 .came)
+    let bad : (k < kind.empty) ⊎ (kind.text < k) → (k < kind.choice) ⊎ (kind.interleave < k) → c .made15 .result
+    ≡ shapeOf k = λ p q. c .made15 .ensures ∙ sym (shape-bad k p q (c .before .before .match .rest)) in
+    ⊎-elim (λ w. bad (inl (w .taken)) (inl (le-trans (w .taken) (lit≤ tt))))
+    (λ w. bad (inr (w .1 .left)) (inr (w .2 .left))) (c .before .if1 .came)
 
 pub shape-of-spec : {M : Type 1} → statement M
 shape-of-spec =

@@ -14,7 +14,8 @@ shape-of-requires : tie.Need-shape-of-requires
 shape-of-requires c κs = search needs
 
 returns : tie.Need-returns
-returns c = ap (λ (x : Shape). x .sort) (c .shape-of .ensures) ∙ ap (λ (k : ℕ). shapeOf k .sort) (c .before .kind .ensures)
+returns c =
+    ap (λ (x : Shape). x .sort) (c .shape-of .ensures) ∙ ap (λ (k : ℕ). shapeOf k .sort) (c .before .kind .ensures)
 
 pub sort-at-spec : {M : Type 1} → statement M
 sort-at-spec = tie.close (tie.spec kind-requires shape-of-requires returns)

@@ -32,7 +32,9 @@ same-length : tie.Need-same-length
 same-length c = search needs
 
 returns-3 : tie.Need-returns-3
-returns-3 c = listed-already _ _ _ _ _ _ (sym (c .before .before .before .before .before .before .mention-of .ensures) ∙ c .before .before .before .before .number .given .1) (said-yes (c .before .is-listed .ensures) (c .if2 .taken))
+returns-3 c =
+    listed-already _ _ _ _ _ _ (sym (c .before .before .before .before .before .before .mention-of .ensures)
+    ∙ c .before .before .before .before .number .given .1) (said-yes (c .before .is-listed .ensures) (c .if2 .taken))
 
 mul-list : tie.Need-mul-list
 mul-list c = search needs
@@ -47,7 +49,9 @@ same-length-2 : tie.Need-same-length-2
 same-length-2 c = search needs
 
 returns-4 : tie.Need-returns-4
-returns-4 c = adds _ _ _ _ _ _ (sym (c .before .before .before .before .before .before .mention-of .ensures) ∙ c .before .before .before .before .number .given .1) (omega arith)
+returns-4 c =
+    let d = c .before .before .before .before in
+    adds _ _ _ _ _ _ (sym (d .before .before .mention-of .ensures) ∙ d .number .given .1) (omega arith)
 
 pub add-mention-spec : {M : Type 1} → statement M
 add-mention-spec =

@@ -20,10 +20,14 @@ is-listed-requires : tie.Need-is-listed-requires Inv-loop μ-loop
 is-listed-requires c κs = tt
 
 add-number : tie.Need-add-number Inv-loop μ-loop
-add-number c = omega (arith, counting-ends (c .before .before .loop .inv) (said-yes (c .before .is-listed .ensures) (c .if1 .taken)))
+add-number c =
+    omega
+    (arith, counting-ends (c .before .before .loop .inv) (said-yes (c .before .is-listed .ensures) (c .if1 .taken)))
 
 loop-less : tie.Need-loop-less Inv-loop μ-loop
-loop-less c = omega (arith, counting-ends (c .before .before .loop .inv) (said-yes (c .before .is-listed .ensures) (c .if1 .taken)))
+loop-less c =
+    omega
+    (arith, counting-ends (c .before .before .loop .inv) (said-yes (c .before .is-listed .ensures) (c .if1 .taken)))
 
 loop-again : tie.Need-loop-again Inv-loop μ-loop
 loop-again c = counting-step (c .before .before .loop .inv) (said-yes (c .before .is-listed .ensures) (c .if1 .taken))

@@ -1,5 +1,5 @@
--- `classes::in_class` meets its contract. A name with local 0 is in no class by the definition; any other is where
--- `class_holds` says so.
+-- `classes::in_class` meets its contract. By the definition no class has a name whose local number is 0; any other name
+-- is in a class where `class_holds` says so.
 use native.Mathlib.Omega.{arith}
 use borrow.Author.Needs.{needs}
 use borrow.Author.Tests.{le-ltb, lt-ltb}

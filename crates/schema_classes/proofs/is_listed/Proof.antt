@@ -20,7 +20,11 @@ word-requires : tie.Need-word-requires Inv-loop μ-loop
 word-requires c κs = tt
 
 returns : tie.Need-returns Inv-loop μ-loop
-returns c = record { at = c .before .before .before .loop .i; before = c .before .before .loop-test .taken; is = sym (c .before .word .ensures) ∙ c .if1 .taken }
+returns c = record {
+  at = c .before .before .before .loop .i;
+  before = c .before .before .loop-test .taken;
+  is = sym (c .before .word .ensures) ∙ c .if1 .taken;
+}
 
 add-i : tie.Need-add-i Inv-loop μ-loop
 add-i c = omega arith

@@ -56,11 +56,16 @@ try-names-requires c κs = search needs
 
 returns : tie.Need-returns
 returns c =
-    let args = c .before .before .before .before .before .before .before .before .before .before .before .before .before .before .before .before .before .before .before .before .before .args in
-    let close = c .before .before .before .before .before .before .before .before .before .before .before .before .mark-below .ensures in
-    let marked = two-marked (replicate markedRows 0) (args .first) (args .second) (length-replicate {A = ℕ} markedRows 0) (c .before .before .before .before .before .before .before .before .before .before .before .before .before .before .before .before .before .before .put-u32 .ensures) (c .before .before .before .before .before .before .before .before .before .before .before .before .before .before .before .put-u322 .ensures) close in
-    least-on-grid _ _ _ _ _ _ _ _ (c .before .before .before .before .before .before .before .before .before .before .before .before .before .before .before .before .before .before .before .before .before .pre) (search needs) (close .closed) (marked .0) (marked .1)
-    (c .before .before .before .before .before .before .before .before .list-candidates .ensures) (c .before .before .before .before .list-candidates2 .ensures) (c .try-names .ensures)
+    let c₁ = c .before .before .before .before .before .before .before .before .before .before .before .before in
+    let c₂ = c₁ .before .before .before .before .before .before in
+    let args = c₂ .before .before .before .args in
+    let close = c₁ .mark-below .ensures in
+    let marked = two-marked (replicate markedRows 0) (args .first) (args .second) (length-replicate {A = ℕ}
+    markedRows 0) (c₂ .put-u32 .ensures) (c₁ .before .before .before .put-u322 .ensures) close in
+    least-on-grid _ _ _ _ _ _ _ _ (c₂ .before .before .before .pre)
+    (search needs) (close .closed) (marked .0) (marked .1)
+    (c .before .before .before .before .before .before .before .before .list-candidates .ensures)
+    (c .before .before .before .before .list-candidates2 .ensures) (c .try-names .ensures)
 
 pub least-common-spec : {M : Type 1} → statement M
 least-common-spec =

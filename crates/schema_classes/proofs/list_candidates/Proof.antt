@@ -11,7 +11,11 @@ least-of-requires : tie.Need-least-of-requires
 least-of-requires c κs = search needs
 
 fresh-requires : tie.Need-fresh-requires
-fresh-requires c κs = (c .before .before .before .before .list-mentions .ensures .most, rw (c .least-of .ensures) (least-small (c .before .before .before .before .before .before .before .before .before .args .part)))
+fresh-requires c κs = (
+  c .before .before .before .before .list-mentions .ensures .most,
+  rw (c .least-of .ensures)
+      (least-small (c .before .before .before .before .before .before .before .before .before .args .part)),
+)
 
 mul-list : tie.Need-mul-list
 mul-list c = search needs
@@ -26,7 +30,9 @@ same-length : tie.Need-same-length
 same-length c = search needs
 
 returns : tie.Need-returns
-returns c = candidates (c .before .before .before .before .before .list-mentions .ensures) (search needs) (rw (c .before .least-of .ensures) at (c .fresh .ensures))
+returns c =
+    candidates (c .before .before .before .before .before .list-mentions .ensures)
+    (search needs) (rw (c .before .least-of .ensures) at (c .fresh .ensures))
 
 pub list-candidates-spec : {M : Type 1} → statement M
 list-candidates-spec =

@@ -28,13 +28,16 @@ loop-less : tie.Need-loop-less Inv-loop μ-loop
 loop-less c = omega arith
 
 loop-again : tie.Need-loop-again Inv-loop μ-loop
-loop-again c = mentions-step (c .before .before .before .before .before .loop .inv) (c .before .before .before .before .loop-test .taken) (search needs) (c .before .before .add-mention .ensures)
+loop-again c =
+    mentions-step (c .before .before .before .before .before .loop .inv)
+    (c .before .before .before .before .loop-test .taken) (search needs) (c .before .before .add-mention .ensures)
 
 same-length : tie.Need-same-length Inv-loop μ-loop
 same-length c = c .before .loop .inv .size ∙ sym (c .before .before .before .before .before .pre .1)
 
 returns : tie.Need-returns Inv-loop μ-loop
-returns c = mentions-done (c .before .loop .inv) (c .before .before .before .before .before .pre .0) (c .loop-test .left)
+returns c =
+    mentions-done (c .before .loop .inv) (c .before .before .before .before .before .pre .0) (c .loop-test .left)
 
 pub list-mentions-spec : {M : Type 1} → statement M
 list-mentions-spec =

@@ -35,9 +35,10 @@ loop-less c = omega arith
 
 loop-again : tie.Need-loop-again Inv-loop μ-loop
 loop-again c =
+    let d = c .before .before .before .before in
     rw (c .before .before .mark-children .ensures)
-    (closing-step (c .before .before .before .before .before .before .before .loop .inv) (c .before .before .before .before .before .before .loop-test .taken)
-    (ap (λ (x : ℕ). eqb x 1) (c .before .before .before .before .word .ensures)))
+    (closing-step (d .before .before .before .loop .inv) (d .before .before .loop-test .taken)
+    (ap (λ (x : ℕ). eqb x 1) (d .word .ensures)))
 
 same-length : tie.Need-same-length Inv-loop μ-loop
 same-length c = c .before .loop .inv .size ∙ sym (c .before .before .before .before .pre)

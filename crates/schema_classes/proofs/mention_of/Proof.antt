@@ -14,13 +14,21 @@ field-a-requires : tie.Need-field-a-requires
 field-a-requires c κs = search needs
 
 returns : tie.Need-returns
-returns c = rw (c .before .before .enum-told .given .1, ← c .before .before .before .before .kind .ensures, c .before .if1 .taken, ← c .field-a .ensures)
+returns c =
+    rw (
+      c .before .before .enum-told .given .1,
+      ← c .before .before .before .before .kind .ensures,
+      c .before .if1 .taken,
+      ← c .field-a .ensures,
+    )
 
 field-a-requires-2 : tie.Need-field-a-requires-2
 field-a-requires-2 c κs = search needs
 
 returns-2 : tie.Need-returns-2
-returns-2 c = rw (c .before .before .before .enum-told .given .1, ← c .before .before .before .before .before .kind .ensures, c .before .if2 .taken, ← c .field-a2 .ensures)
+returns-2 c =
+    let d = c .before .before .before in
+    rw (d .enum-told .given .1, ← d .before .before .kind .ensures, c .before .if2 .taken, ← c .field-a2 .ensures)
 
 enum-told-2 : tie.Need-enum-told-2
 enum-told-2 c = search needs
@@ -29,13 +37,26 @@ field-b-requires : tie.Need-field-b-requires
 field-b-requires c κs = search needs
 
 returns-3 : tie.Need-returns-3
-returns-3 c = rw (c .before .before .enum-told2 .given .1, ← c .before .before .before .before .kind .ensures, c .before .if3 .taken, ← c .field-b .ensures)
+returns-3 c =
+    rw (
+      c .before .before .enum-told2 .given .1,
+      ← c .before .before .before .before .kind .ensures,
+      c .before .if3 .taken,
+      ← c .field-b .ensures,
+    )
 
 returns-4 : tie.Need-returns-4
-returns-4 c = rw (c .before .before .enum-told .given .1, ← c .before .before .before .before .kind .ensures, ne-eqb _ 17 (c .before .if1 .left), ne-eqb _ 18 (c .if2 .left))
+returns-4 c =
+    rw (
+      c .before .before .enum-told .given .1,
+      ← c .before .before .before .before .kind .ensures,
+      ne-eqb _ 17 (c .before .if1 .left),
+      ne-eqb _ 18 (c .if2 .left),
+    )
 
 returns-5 : tie.Need-returns-5
-returns-5 c = rw (c .before .enum-told2 .given .1, ← c .before .before .before .kind .ensures, ne-eqb _ 18 (c .if3 .left))
+returns-5 c =
+    rw (c .before .enum-told2 .given .1, ← c .before .before .before .kind .ensures, ne-eqb _ 18 (c .if3 .left))
 
 pub mention-of-spec : {M : Type 1} → statement M
 mention-of-spec =

@@ -6,7 +6,8 @@ use Rattle.schema_classes.proofs.try_locals.Statement.{statement}
 use Rattle.schema_classes.proofs.try_locals.Tie as tie
 
 abbrev Inv-loop : tie.InvT-loop
-Inv-loop schema first second namespace locals count found₀ i₀ found i = TryingLocals schema first second namespace locals found₀ i found
+Inv-loop schema first second namespace locals count found₀ i₀ found i =
+    TryingLocals schema first second namespace locals found₀ i found
 
 abbrev μ-loop : tie.MeasureT-loop
 μ-loop schema first second namespace locals count found₀ i₀ found i = count - i

@@ -6,7 +6,8 @@ use Rattle.schema_classes.proofs.try_names.Statement.{statement}
 use Rattle.schema_classes.proofs.try_names.Tie as tie
 
 abbrev Inv-loop : tie.InvT-loop
-Inv-loop schema first second namespaces n locals k found₀ i₀ found i = TryingNames schema first second namespaces locals k i found
+Inv-loop schema first second namespaces n locals k found₀ i₀ found i =
+    TryingNames schema first second namespaces locals k i found
 
 abbrev μ-loop : tie.MeasureT-loop
 μ-loop schema first second namespaces n locals k found₀ i₀ found i = n - i

@@ -69,7 +69,9 @@ infinite-returns : (t : ℕ) → infinite-lts.Need-returns (
   child-b-reads.Asked,
   child-b-reads.Learnt,
 ) (infinite-at t) infinite.Post
-infinite-returns t c = anyName-infinite (c .before .before .before .args .schema .now) (c .before .before .before .args .class) (c .before .kind .ensures) (c .if1 .taken)
+infinite-returns t c =
+    anyName-infinite (c .before .before .before .args .schema .now)
+    (c .before .before .before .args .class) (c .before .kind .ensures) (c .if1 .taken)
 
 infinite-returns-2 : (t : ℕ) → infinite-lts.Need-returns-2 (
   kind-reads.Asked,
@@ -81,7 +83,9 @@ infinite-returns-2 : (t : ℕ) → infinite-lts.Need-returns-2 (
   child-b-reads.Asked,
   child-b-reads.Learnt,
 ) (infinite-at t) infinite.Post
-infinite-returns-2 t c = nsName-infinite (c .before .before .before .before .args .schema .now) (c .before .before .before .before .args .class) (c .before .before .kind .ensures) (c .if2 .taken)
+infinite-returns-2 t c =
+    nsName-infinite (c .before .before .before .before .args .schema .now)
+    (c .before .before .before .before .args .class) (c .before .before .kind .ensures) (c .if2 .taken)
 
 infinite-child-a-requires : (t : ℕ) → infinite-lts.Need-child-a-requires (
   kind-reads.Asked,
@@ -117,7 +121,12 @@ infinite-returns-3 : (t : ℕ) → infinite-lts.Need-returns-3 (
   child-b-reads.Asked,
   child-b-reads.Learnt,
 ) (infinite-at t) infinite.Post
-infinite-returns-3 t c = first-child (omega arith) (c .before .before .child-a .ensures) (by-children (c .before .before .before .before .before .before .before .args .schema .now) (c .before .before .before .before .before .before .before .args .class) (c .before .before .before .before .before .kind .ensures) (c .before .before .before .before .if1 .left) (c .before .before .before .if2 .left)) (c .before .infinite-child .ensures) (c .if3 .taken)
+infinite-returns-3 t c =
+    let d = c .before .before .before .before in
+    first-child (omega arith) (c .before .before .child-a .ensures)
+    (by-children (d .before .before .before .args .schema .now) (d .before .before .before .args .class)
+    (d .before .kind .ensures) (d .if1 .left) (c .before .before .before .if2 .left))
+    (c .before .infinite-child .ensures) (c .if3 .taken)
 
 infinite-child-b-requires : (t : ℕ) → infinite-lts.Need-child-b-requires (
   kind-reads.Asked,
@@ -141,7 +150,8 @@ infinite-infinite-child-requires-2 : (t : ℕ) → infinite-lts.Need-infinite-ch
   child-b-reads.Asked,
   child-b-reads.Learnt,
 ) (infinite-at t) infinite.Post
-infinite-infinite-child-requires-2 t c κs = (omega (arith, c .before .before .before .before .before .before .before .before .pre .0), tt)
+infinite-infinite-child-requires-2 t c κs =
+    (omega (arith, c .before .before .before .before .before .before .before .before .pre .0), tt)
 
 infinite-returns-4 : (t : ℕ) → infinite-lts.Need-returns-4 (
   kind-reads.Asked,
@@ -153,7 +163,13 @@ infinite-returns-4 : (t : ℕ) → infinite-lts.Need-returns-4 (
   child-b-reads.Asked,
   child-b-reads.Learnt,
 ) (infinite-at t) infinite.Post
-infinite-returns-4 t c = second-child (omega arith) (c .before .before .before .before .child-a .ensures) (by-children (c .before .before .before .before .before .before .before .before .before .args .schema .now) (c .before .before .before .before .before .before .before .before .before .args .class) (c .before .before .before .before .before .before .before .kind .ensures) (c .before .before .before .before .before .before .if1 .left) (c .before .before .before .before .before .if2 .left)) (c .before .before .before .infinite-child .ensures) (c .before .before .if3 .left) (c .before .child-b .ensures) (c .infinite-child2 .result) (c .infinite-child2 .ensures)
+infinite-returns-4 t c =
+    let d = c .before .before .before .before .before in
+    second-child (omega arith) (c .before .before .before .before .child-a .ensures)
+    (by-children (d .before .before .before .before .args .schema .now)
+    (d .before .before .before .before .args .class) (d .before .before .kind .ensures) (d .before .if1 .left)
+    (d .if2 .left)) (c .before .before .before .infinite-child .ensures) (c .before .before .if3 .left)
+    (c .before .child-b .ensures) (c .infinite-child2 .result) (c .infinite-child2 .ensures)
 
 infinite-child-infinite-requires : (t : ℕ) → infinite-child-lts.Need-infinite-requires (
   infinite-below t,
@@ -165,7 +181,9 @@ infinite-child-returns : (t : ℕ) → infinite-child-lts.Need-returns (
   infinite-below t,
   infinite.Post,
 ) (infinite-child-at t) infinite-child.Post
-infinite-child-returns t c = beside (Infinite (c .before .before .before .args .schema .now) (c .before .before .before .args .child)) (c .infinite .result) (c .before .if1 .taken) (c .infinite .ensures)
+infinite-child-returns t c =
+    beside (Infinite (c .before .before .before .args .schema .now) (c .before .before .before .args .child))
+    (c .infinite .result) (c .before .if1 .taken) (c .infinite .ensures)
 
 infinite-child-returns-2 : (t : ℕ) → infinite-child-lts.Need-returns-2 (
   infinite-below t,

@@ -21,7 +21,9 @@ first-attribute-requires : tie.Need-first-attribute-requires
 first-attribute-requires c κs = found-none _ (c .before .before .check-size .ensures) (c .enum-told .given .1)
 
 returns-2 : tie.Need-returns-2
-returns-2 c = sized-on _ _ (c .before .before .before .check-size .ensures) (c .before .enum-told .given .1) (c .first-attribute .result) (c .first-attribute .ensures)
+returns-2 c =
+    sized-on _ _ (c .before .before .before .check-size .ensures)
+    (c .before .enum-told .given .1) (c .first-attribute .result) (c .first-attribute .ensures)
 
 pub check-attributes-spec : {M : Type 1} → statement M
 check-attributes-spec =

@@ -21,7 +21,9 @@ first-interleave-requires : tie.Need-first-interleave-requires
 first-interleave-requires c κs = found-none _ (c .before .before .check-size .ensures) (c .enum-told .given .1)
 
 returns-2 : tie.Need-returns-2
-returns-2 c = sized-on _ _ (c .before .before .before .check-size .ensures) (c .before .enum-told .given .1) (c .first-interleave .result) (c .first-interleave .ensures)
+returns-2 c =
+    sized-on _ _ (c .before .before .before .check-size .ensures)
+    (c .before .enum-told .given .1) (c .first-interleave .result) (c .first-interleave .ensures)
 
 pub check-interleaves-spec : {M : Type 1} → statement M
 check-interleaves-spec =

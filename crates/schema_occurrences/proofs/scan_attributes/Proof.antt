@@ -24,10 +24,13 @@ cast-attribute-fault : tie.Need-cast-attribute-fault Inv-loop μ-loop
 cast-attribute-fault c = omega (arith, few-rows (c .before .before .before .before .pre .0))
 
 attribute-fault-requires : tie.Need-attribute-fault-requires Inv-loop μ-loop
-attribute-fault-requires c κs = (c .before .before .before .before .pre .0, c .before .before .before .before .pre .1, c .loop-test .taken)
+attribute-fault-requires c κs =
+    (c .before .before .before .before .pre .0, c .before .before .before .before .pre .1, c .loop-test .taken)
 
 cast-t9 : tie.Need-cast-t9 Inv-loop μ-loop
-cast-t9 c = omega (arith, c .before .before .loop-test .taken, few-rows (c .before .before .before .before .before .before .pre .0))
+cast-t9 c =
+    omega
+    (arith, c .before .before .loop-test .taken, few-rows (c .before .before .before .before .before .before .pre .0))
 
 returns : tie.Need-returns Inv-loop μ-loop
 returns c = (said-yes (c .before .attribute-fault .ensures) (c .if1 .taken), c .before .before .before .loop .inv .1)
@@ -39,10 +42,16 @@ loop-less : tie.Need-loop-less Inv-loop μ-loop
 loop-less c = omega (arith, c .before .before .loop-test .taken)
 
 loop-again : tie.Need-loop-again Inv-loop μ-loop
-loop-again c = (omega (arith, c .before .before .loop-test .taken), below-more _ _ (c .before .before .before .loop .inv .1) (said-no (c .before .attribute-fault .ensures) (c .if1 .left)))
+loop-again c = (
+  omega (arith, c .before .before .loop-test .taken),
+  below-more _ _ (c .before .before .before .loop .inv .1)
+      (said-no (c .before .attribute-fault .ensures) (c .if1 .left)),
+)
 
 returns-2 : tie.Need-returns-2 Inv-loop μ-loop
-returns-2 c = finds-none _ (c .before .loop .inv .1) (λ k f. omega (arith, attribute-row (c .before .before .before .before .pre .0) f))
+returns-2 c =
+    finds-none _ (c .before .loop .inv .1)
+    (λ k f. omega (arith, attribute-row (c .before .before .before .before .pre .0) f))
 
 pub scan-attributes-spec : {M : Type 1} → statement M
 scan-attributes-spec =

@@ -15,7 +15,9 @@ use Rattle.schema_occurrences.proofs.scan_interleaves.Statement.{statem
 use Rattle.schema_occurrences.proofs.scan_interleaves.Tie as tie
 
 abbrev Inv-loop : tie.InvT-loop
-Inv-loop schema compared₀ rows r₀ compared r = (r ≤ rowsOf schema) × Clear (InterleaveFault schema) r × Compared schema compared × (length compared ≡ length compared₀)
+Inv-loop schema compared₀ rows r₀ compared r =
+    (r ≤ rowsOf schema) × Clear (InterleaveFault schema) r
+    × Compared schema compared × (length compared ≡ length compared₀)
 
 abbrev μ-loop : tie.MeasureT-loop
 μ-loop schema compared₀ rows r₀ compared r = rows - r
@@ -30,13 +32,18 @@ interleave-fault-requires : tie.Need-interleave-fault-requires Inv-loop μ-loop
 interleave-fault-requires c κs = (c .before .before .before .before .before .pre .0, c .before .before .loop .inv .2)
 
 cast-t11 : tie.Need-cast-t11 Inv-loop μ-loop
-cast-t11 c = omega (arith, c .before .before .before .before .before .loop-test .taken, few-rows (c .before .before .before .before .before .before .before .before .before .pre .0))
+cast-t11 c =
+    let d = c .before .before .before .before .before in
+    omega (arith, d .loop-test .taken, few-rows (d .before .before .before .before .pre .0))
 
 same-length : tie.Need-same-length Inv-loop μ-loop
-same-length c = omega (arith, c .before .before .compared .given, c .before .before .before .before .before .before .loop .inv .3)
+same-length c =
+    omega (arith, c .before .before .compared .given, c .before .before .before .before .before .before .loop .inv .3)
 
 returns : tie.Need-returns Inv-loop μ-loop
-returns c = (said-yes (c .before .before .before .interleave-fault .ensures .0) (c .if1 .taken), c .before .before .before .before .before .before .loop .inv .1)
+returns c =
+    let d = c .before .before .before in
+    (said-yes (d .interleave-fault .ensures .0) (c .if1 .taken), d .before .before .before .loop .inv .1)
 
 add-r : tie.Need-add-r Inv-loop μ-loop
 add-r c = omega (arith, c .before .before .before .before .before .loop-test .taken)
@@ -45,13 +52,21 @@ loop-less : tie.Need-loop-less Inv-loop μ-loop
 loop-less c = omega (arith, c .before .before .before .before .before .loop-test .taken)
 
 loop-again : tie.Need-loop-again Inv-loop μ-loop
-loop-again c = (omega (arith, c .before .before .before .before .before .loop-test .taken), below-more _ _ (c .before .before .before .before .before .before .loop .inv .1) (said-no (c .before .before .before .interleave-fault .ensures .0) (c .if1 .left)), c .before .before .before .interleave-fault .ensures .1, c .before .before .compared .given ∙ c .before .before .before .before .before .before .loop .inv .3)
+loop-again c = (
+  omega (arith, c .before .before .before .before .before .loop-test .taken),
+  below-more _ _ (c .before .before .before .before .before .before .loop .inv .1)
+      (said-no (c .before .before .before .interleave-fault .ensures .0) (c .if1 .left)),
+  c .before .before .before .interleave-fault .ensures .1,
+  c .before .before .compared .given ∙ c .before .before .before .before .before .before .loop .inv .3,
+)
 
 same-length-2 : tie.Need-same-length-2 Inv-loop μ-loop
 same-length-2 c = c .before .loop .inv .3
 
 returns-2 : tie.Need-returns-2 Inv-loop μ-loop
-returns-2 c = finds-none _ (c .before .loop .inv .1) (λ k f. omega (arith, interleave-row (c .before .before .before .before .pre .0) f))
+returns-2 c =
+    finds-none _ (c .before .loop .inv .1)
+    (λ k f. omega (arith, interleave-row (c .before .before .before .before .pre .0) f))
 
 pub scan-interleaves-spec : {M : Type 1} → statement M
 scan-interleaves-spec =

@@ -35,13 +35,19 @@ has-requires : tie.Need-has-requires
 has-requires c κs = search needs
 
 returns-3 : tie.Need-returns-3
-returns-3 c = let known = c .before .before .before .before .before .before .before .pre .1 in (known .apart _ _ (omega (arith, c .before .before .before .before .if1 .left)) (sym (c .before .has .ensures) ∙ c .if3 .taken), known)
+returns-3 c =
+    let d = c .before .before .before .before in
+    let known = d .before .before .before .pre .1 in
+    (known .apart _ _ (omega (arith, d .if1 .left)) (sym (c .before .has .ensures) ∙ c .if3 .taken), known)
 
 share-name-requires-3 : tie.Need-share-name-requires-3
 share-name-requires-3 c κs = search needs
 
 returns-4 : tie.Need-returns-4
-returns-4 c = (said-yes (c .before .share-name3 .ensures) (c .if4 .taken), c .before .before .before .before .before .before .before .before .before .pre .1)
+returns-4 c = (
+  said-yes (c .before .share-name3 .ensures) (c .if4 .taken),
+  c .before .before .before .before .before .before .before .before .before .pre .1,
+)
 
 cast-compared : tie.Need-cast-compared
 cast-compared c = search needs
@@ -59,7 +65,13 @@ same-length : tie.Need-same-length
 same-length c = search needs
 
 returns-5 : tie.Need-returns-5
-returns-5 c = let apart = said-no (c .before .share-name3 .ensures) (c .if4 .left) in (apart, compared-more (c .before .before .before .before .before .before .before .before .before .pre .1) (omega (arith, c .before .before .before .before .before .before .if1 .left)) (omega (arith, c .before .before .before .before .before .if2 .left)) apart)
+returns-5 c =
+    let apart = said-no (c .before .share-name3 .ensures) (c .if4 .left) in (
+      apart,
+      compared-more (c .before .before .before .before .before .before .before .before .before .pre .1)
+          (omega (arith, c .before .before .before .before .before .before .if1 .left))
+          (omega (arith, c .before .before .before .before .before .if2 .left)) apart,
+    )
 
 pub share-name-once-spec : {M : Type 1} → statement M
 share-name-once-spec =

@@ -22,7 +22,9 @@ first-name-requires : tie.Need-first-name-requires
 first-name-requires c κs = few-rows (found-none _ (c .before .before .check-size .ensures) (c .enum-told .given .1))
 
 returns-2 : tie.Need-returns-2
-returns-2 c = sized-on _ _ (c .before .before .before .check-size .ensures) (c .before .enum-told .given .1) (c .first-name .result) (c .first-name .ensures)
+returns-2 c =
+    sized-on _ _ (c .before .before .before .check-size .ensures)
+    (c .before .enum-told .given .1) (c .first-name .result) (c .first-name .ensures)
 
 pub check-names-spec : {M : Type 1} → statement M
 check-names-spec =

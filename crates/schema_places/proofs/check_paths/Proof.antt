@@ -19,10 +19,13 @@ returns : tie.Need-returns
 returns c = sized-stop _ _ (c .before .before .check-size .ensures) (c .enum-told2 .given .1)
 
 first-prohibited-requires : tie.Need-first-prohibited-requires
-first-prohibited-requires c κs = few-rows (found-none _ (c .before .before .check-size .ensures) (c .enum-told .given .1))
+first-prohibited-requires c κs =
+    few-rows (found-none _ (c .before .before .check-size .ensures) (c .enum-told .given .1))
 
 returns-2 : tie.Need-returns-2
-returns-2 c = sized-on _ _ (c .before .before .before .check-size .ensures) (c .before .enum-told .given .1) (c .first-prohibited .result) (c .first-prohibited .ensures)
+returns-2 c =
+    sized-on _ _ (c .before .before .before .check-size .ensures)
+    (c .before .enum-told .given .1) (c .first-prohibited .result) (c .first-prohibited .ensures)
 
 pub check-paths-spec : {M : Type 1} → statement M
 check-paths-spec =

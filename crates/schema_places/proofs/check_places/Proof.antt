@@ -19,10 +19,13 @@ returns : tie.Need-returns
 returns c = sized-stop _ _ (c .before .before .check-size .ensures) (c .enum-told2 .given .1)
 
 first-misplaced-requires : tie.Need-first-misplaced-requires
-first-misplaced-requires c κs = few-rows (found-none _ (c .before .before .check-size .ensures) (c .enum-told .given .1))
+first-misplaced-requires c κs =
+    few-rows (found-none _ (c .before .before .check-size .ensures) (c .enum-told .given .1))
 
 returns-2 : tie.Need-returns-2
-returns-2 c = sized-on _ _ (c .before .before .before .check-size .ensures) (c .before .enum-told .given .1) (c .first-misplaced .result) (c .first-misplaced .ensures)
+returns-2 c =
+    sized-on _ _ (c .before .before .before .check-size .ensures)
+    (c .before .enum-told .given .1) (c .first-misplaced .result) (c .first-misplaced .ensures)
 
 pub check-places-spec : {M : Type 1} → statement M
 check-places-spec =

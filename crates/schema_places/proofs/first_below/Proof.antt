@@ -17,7 +17,8 @@ first-marked-requires : tie.Need-first-marked-requires
 first-marked-requires c κs = search needs
 
 returns : tie.Need-returns
-returns c = finds-below _ (c .first-marked .result) (c .before .before .before .mark-below .ensures) (c .first-marked .ensures)
+returns c =
+    finds-below _ (c .first-marked .result) (c .before .before .before .mark-below .ensures) (c .first-marked .ensures)
 
 pub first-below-spec : {M : Type 1} → statement M
 first-below-spec =

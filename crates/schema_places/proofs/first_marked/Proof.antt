@@ -43,7 +43,13 @@ cast-t12 : tie.Need-cast-t12 Inv-loop μ-loop
 cast-t12 c = omega arith
 
 returns : tie.Need-returns Inv-loop μ-loop
-returns c = (record { mark = c .before .before .before .if1 .taken; prohibited = rw (← c .before .before .kind .ensures) (sym (c .before .is-prohibited .ensures) ∙ c .if2 .taken) }, c .before .before .before .before .before .before .loop .inv .1)
+returns c = (
+  record {
+    mark = c .before .before .before .if1 .taken;
+    prohibited = rw (← c .before .before .kind .ensures) (sym (c .before .is-prohibited .ensures) ∙ c .if2 .taken);
+  },
+  c .before .before .before .before .before .before .loop .inv .1,
+)
 
 add-r : tie.Need-add-r Inv-loop μ-loop
 add-r c = omega arith
@@ -52,10 +58,17 @@ loop-less : tie.Need-loop-less Inv-loop μ-loop
 loop-less c = omega arith
 
 loop-again : tie.Need-loop-again Inv-loop μ-loop
-loop-again c = (omega arith, below-more _ _ (c .before .before .before .loop .inv .1) (λ f. ⊎-elim (λ w. false≢true (sym (w .3 .left) ∙ w .2 .ensures ∙ rw (w .1 .ensures) (f .prohibited))) (λ w. w .left (f .mark)) (c .if1 .came)))
+loop-again c = (
+  omega arith,
+  below-more _ _ (c .before .before .before .loop .inv .1)
+      (λ f. ⊎-elim (λ w. false≢true (sym (w .3 .left) ∙ w .2 .ensures ∙ rw (w .1 .ensures) (f .prohibited)))
+      (λ w. w .left (f .mark)) (c .if1 .came)),
+)
 
 returns-2 : tie.Need-returns-2 Inv-loop μ-loop
-returns-2 c = finds-none _ (c .before .loop .inv .1) (λ r f. omega (arith, marked-row (now (c .before .before .before .before .args .marks)) r (f .mark)))
+returns-2 c =
+    finds-none _ (c .before .loop .inv .1)
+    (λ r f. omega (arith, marked-row (now (c .before .before .before .before .args .marks)) r (f .mark)))
 
 pub first-marked-spec : {M : Type 1} → statement M
 first-marked-spec =

@@ -44,7 +44,8 @@ returns c =
     let second = c .before .earlier3 in
     finds-same (c .earlier4 .result) path-fault fault-path
     (finds-earliest _ _ (first .result) (second .result) (c .earlier4 .ensures)
-    (finds-earliest _ _ (attribute .result) (repeated .result) (first .ensures) (attribute .ensures) (repeated .ensures))
+    (finds-earliest _ _ (attribute .result) (repeated .result)
+    (first .ensures) (attribute .ensures) (repeated .ensures))
     (finds-earliest _ _ (list .result) (last .result) (second .ensures) (list .ensures)
     (finds-earliest _ _ (except .result) (start .result) (last .ensures) (except .ensures) (start .ensures))))
 

@@ -14,7 +14,9 @@ use Rattle.schema_places.proofs.mark_below.Statement.{statement}
 use Rattle.schema_places.proofs.mark_below.Tie as tie
 
 abbrev Inv-loop : tie.InvT-loop
-Inv-loop schema source marks below₀ p₀ below p = (length below ≡ maxRows) × (p ≤ suc maxRows) × MarksExactly (Swept schema (Passed schema (IsSource schema source marks)) p) below
+Inv-loop schema source marks below₀ p₀ below p =
+    (length below ≡ maxRows) × (p ≤ suc maxRows)
+    × MarksExactly (Swept schema (Passed schema (IsSource schema source marks)) p) below
 
 abbrev μ-loop : tie.MeasureT-loop
 μ-loop schema source marks below₀ p₀ below p = p
@@ -32,8 +34,11 @@ loop-holds : tie.Need-loop-holds Inv-loop μ-loop
 loop-holds c =
     let start = c .before .before .before .before .before .before .before in
     let few = start .pre .few in
-    let room = start .pre .room in
-    (omega arith, omega arith, rw (c .before .before .zero-u32 .ensures) (sweep-none (length (now (start .args .below))) (row-end few)))
+    let room = start .pre .room in (
+      omega arith,
+      omega arith,
+      rw (c .before .before .zero-u32 .ensures) (sweep-none (length (now (start .args .below))) (row-end few)),
+    )
 
 sub-p : tie.Need-sub-p Inv-loop μ-loop
 sub-p c = omega arith
@@ -45,7 +50,12 @@ loop-less : tie.Need-loop-less Inv-loop μ-loop
 loop-less c = omega arith
 
 loop-again : tie.Need-loop-again Inv-loop μ-loop
-loop-again c = (omega arith, omega arith, sweep-below (omega arith) (c .before .before .before .before .before .loop .inv .2) (c .before .before .pass-below .ensures))
+loop-again c = (
+  omega arith,
+  omega arith,
+  sweep-below (omega arith) (c .before .before .before .before .before .loop .inv .2)
+      (c .before .before .pass-below .ensures),
+)
 
 same-length : tie.Need-same-length Inv-loop μ-loop
 same-length c = omega arith

@@ -14,7 +14,8 @@ use Rattle.schema_places.proofs.mark_places.Statement.{statement}
 use Rattle.schema_places.proofs.mark_places.Tie as tie
 
 abbrev Inv-loop : tie.InvT-loop
-Inv-loop schema bad₀ parent₀ bad parent = (length bad ≡ maxRows) × (parent ≤ suc maxRows) × MarksExactly (Swept schema (Misplaced schema) parent) bad
+Inv-loop schema bad₀ parent₀ bad parent =
+    (length bad ≡ maxRows) × (parent ≤ suc maxRows) × MarksExactly (Swept schema (Misplaced schema) parent) bad
 
 abbrev μ-loop : tie.MeasureT-loop
 μ-loop schema bad₀ parent₀ bad parent = parent
@@ -32,8 +33,11 @@ loop-holds : tie.Need-loop-holds Inv-loop μ-loop
 loop-holds c =
     let start = c .before .before .before .before .before .before in
     let few = start .pre .few in
-    let room = start .pre .room in
-    (omega arith, omega arith, rw (c .before .before .zero-u32 .ensures) (sweep-none (length (now (start .args .bad))) (row-end few)))
+    let room = start .pre .room in (
+      omega arith,
+      omega arith,
+      rw (c .before .before .zero-u32 .ensures) (sweep-none (length (now (start .args .bad))) (row-end few)),
+    )
 
 sub-parent : tie.Need-sub-parent Inv-loop μ-loop
 sub-parent c = omega arith
@@ -45,7 +49,12 @@ loop-less : tie.Need-loop-less Inv-loop μ-loop
 loop-less c = omega arith
 
 loop-again : tie.Need-loop-again Inv-loop μ-loop
-loop-again c = (omega arith, omega arith, sweep-more (omega arith) (c .before .before .before .before .before .loop .inv .2) (c .before .before .pass-places .ensures))
+loop-again c = (
+  omega arith,
+  omega arith,
+  sweep-more (omega arith) (c .before .before .before .before .before .loop .inv .2)
+      (c .before .before .pass-places .ensures),
+)
 
 same-length : tie.Need-same-length Inv-loop μ-loop
 same-length c = omega arith

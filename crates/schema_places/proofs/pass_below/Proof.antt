@@ -17,7 +17,8 @@ returns : tie.Need-returns
 returns c =
     let pre = c .before .before .before .before .before .before .before .before .before .pre in
     let passes = c .before .before .before .before .passes in
-    adds-those (pre .0) (pre .1) _ (passes .result) (passes .result) (passes .ensures) (passes .ensures) (c .before .before .mark-children .ensures)
+    adds-those (pre .0) (pre .1) _ (passes .result) (passes .result) (passes .ensures)
+    (passes .ensures) (c .before .before .mark-children .ensures)
 
 pub pass-below-spec : {M : Type 1} → statement M
 pass-below-spec = tie.close (tie.spec passes-requires mark-children-requires same-length returns)

@@ -19,7 +19,9 @@ returns-2 : tie.Need-returns-2
 returns-2 c = inr (sym (c .before .word .ensures) ∙ c .if2 .taken)
 
 returns-3 : tie.Need-returns-3
-returns-3 c = ⊎-elim (said-no (c .before .before .before .is-source .ensures) (c .before .before .if1 .left)) (λ h. c .if2 .left (c .before .word .ensures ∙ h))
+returns-3 c =
+    ⊎-elim (said-no (c .before .before .before .is-source .ensures) (c .before .before .if1 .left))
+    (λ h. c .if2 .left (c .before .word .ensures ∙ h))
 
 pub passes-spec : {M : Type 1} → statement M
 passes-spec = tie.close (tie.spec is-source-requires returns word-requires returns-2 returns-3)

@@ -38,11 +38,13 @@ refusal-requires-2 c κs = search needs
 
 returns-2 : tie.Need-returns-2
 returns-2 c =
-    let check-rows = c .before .before .before .before .before .before .check-rows in
-    let check-places = c .before .before .before .check-places in
-    let right = right-size (found-none _ (check-rows .ensures) (c .before .before .before .before .enum-told .given .1)) in
-    on 2 (check-rows .ensures) (c .before .before .before .before .enum-told .given .1)
-    (stops 3 (sized-finds _ _ right (check-places .result) (check-places .ensures)) (c .before .enum-told4 .given .1) (c .refusal2 .ensures))
+    let d = c .before .before .before in
+    let check-rows = d .before .before .before .check-rows in
+    let check-places = d .check-places in
+    let right = right-size (found-none _ (check-rows .ensures) (d .before .enum-told .given .1)) in
+    on 2 (check-rows .ensures) (d .before .enum-told .given .1)
+    (stops 3 (sized-finds _ _ right (check-places .result) (check-places .ensures))
+    (c .before .enum-told4 .given .1) (c .refusal2 .ensures))
 
 check-names-requires : tie.Need-check-names-requires
 check-names-requires c κs = search needs
@@ -58,13 +60,16 @@ refusal-requires-3 c κs = search needs
 
 returns-3 : tie.Need-returns-3
 returns-3 c =
-    let check-rows = c .before .before .before .before .before .before .before .before .before .check-rows in
-    let check-places = c .before .before .before .before .before .before .check-places in
-    let check-names = c .before .before .before .check-names in
-    let right = right-size (found-none _ (check-rows .ensures) (c .before .before .before .before .before .before .before .enum-told .given .1)) in
-    on 2 (check-rows .ensures) (c .before .before .before .before .before .before .before .enum-told .given .1)
-    (on 3 (sized-finds _ _ right (check-places .result) (check-places .ensures)) (c .before .before .before .before .enum-told3 .given .1)
-    (stops 4 (sized-finds _ _ right (check-names .result) (check-names .ensures)) (c .before .enum-told6 .given .1) (c .refusal3 .ensures)))
+    let c₁ = c .before .before .before in
+    let c₂ = c₁ .before .before .before in
+    let check-rows = c₂ .before .before .before .check-rows in
+    let check-places = c₂ .check-places in
+    let check-names = c₁ .check-names in
+    let right = right-size (found-none _ (check-rows .ensures) (c₂ .before .enum-told .given .1)) in
+    on 2 (check-rows .ensures) (c₂ .before .enum-told .given .1)
+    (on 3 (sized-finds _ _ right (check-places .result) (check-places .ensures)) (c₁ .before .enum-told3 .given .1)
+    (stops 4 (sized-finds _ _ right (check-names .result) (check-names .ensures))
+    (c .before .enum-told6 .given .1) (c .refusal3 .ensures)))
 
 check-paths-requires : tie.Need-check-paths-requires
 check-paths-requires c κs = search needs
@@ -80,15 +85,19 @@ refusal-requires-4 c κs = search needs
 
 returns-4 : tie.Need-returns-4
 returns-4 c =
-    let check-rows = c .before .before .before .before .before .before .before .before .before .before .before .before .check-rows in
-    let check-places = c .before .before .before .before .before .before .before .before .before .check-places in
-    let check-names = c .before .before .before .before .before .before .check-names in
-    let check-paths = c .before .before .before .check-paths in
-    let right = right-size (found-none _ (check-rows .ensures) (c .before .before .before .before .before .before .before .before .before .before .enum-told .given .1)) in
-    on 2 (check-rows .ensures) (c .before .before .before .before .before .before .before .before .before .before .enum-told .given .1)
-    (on 3 (sized-finds _ _ right (check-places .result) (check-places .ensures)) (c .before .before .before .before .before .before .before .enum-told3 .given .1)
-    (on 4 (sized-finds _ _ right (check-names .result) (check-names .ensures)) (c .before .before .before .before .enum-told5 .given .1)
-    (stops 5 (sized-finds _ _ right (check-paths .result) (check-paths .ensures)) (c .before .enum-told8 .given .1) (c .refusal4 .ensures))))
+    let c₁ = c .before .before .before in
+    let c₂ = c₁ .before .before .before in
+    let c₃ = c₂ .before .before .before in
+    let check-rows = c₃ .before .before .before .check-rows in
+    let check-places = c₃ .check-places in
+    let check-names = c₂ .check-names in
+    let check-paths = c₁ .check-paths in
+    let right = right-size (found-none _ (check-rows .ensures) (c₃ .before .enum-told .given .1)) in
+    on 2 (check-rows .ensures) (c₃ .before .enum-told .given .1)
+    (on 3 (sized-finds _ _ right (check-places .result) (check-places .ensures)) (c₂ .before .enum-told3 .given .1)
+    (on 4 (sized-finds _ _ right (check-names .result) (check-names .ensures)) (c₁ .before .enum-told5 .given .1)
+    (stops 5 (sized-finds _ _ right (check-paths .result) (check-paths .ensures))
+    (c .before .enum-told8 .given .1) (c .refusal4 .ensures))))
 
 check-content-requires : tie.Need-check-content-requires
 check-content-requires c κs = search needs
@@ -104,17 +113,22 @@ refusal-requires-5 c κs = search needs
 
 returns-5 : tie.Need-returns-5
 returns-5 c =
-    let check-rows = c .before .before .before .before .before .before .before .before .before .before .before .before .before .before .before .check-rows in
-    let check-places = c .before .before .before .before .before .before .before .before .before .before .before .before .check-places in
-    let check-names = c .before .before .before .before .before .before .before .before .before .check-names in
-    let check-paths = c .before .before .before .before .before .before .check-paths in
-    let check-content = c .before .before .before .check-content in
-    let right = right-size (found-none _ (check-rows .ensures) (c .before .before .before .before .before .before .before .before .before .before .before .before .before .enum-told .given .1)) in
-    on 2 (check-rows .ensures) (c .before .before .before .before .before .before .before .before .before .before .before .before .before .enum-told .given .1)
-    (on 3 (sized-finds _ _ right (check-places .result) (check-places .ensures)) (c .before .before .before .before .before .before .before .before .before .before .enum-told3 .given .1)
-    (on 4 (sized-finds _ _ right (check-names .result) (check-names .ensures)) (c .before .before .before .before .before .before .before .enum-told5 .given .1)
-    (on 5 (sized-finds _ _ right (check-paths .result) (check-paths .ensures)) (c .before .before .before .before .enum-told7 .given .1)
-    (stops 6 (sized-finds _ _ right (check-content .result) (check-content .ensures)) (c .before .enum-told10 .given .1) (c .refusal5 .ensures)))))
+    let c₁ = c .before .before .before in
+    let c₂ = c₁ .before .before .before in
+    let c₃ = c₂ .before .before .before in
+    let c₄ = c₃ .before .before .before in
+    let check-rows = c₄ .before .before .before .check-rows in
+    let check-places = c₄ .check-places in
+    let check-names = c₃ .check-names in
+    let check-paths = c₂ .check-paths in
+    let check-content = c₁ .check-content in
+    let right = right-size (found-none _ (check-rows .ensures) (c₄ .before .enum-told .given .1)) in
+    on 2 (check-rows .ensures) (c₄ .before .enum-told .given .1)
+    (on 3 (sized-finds _ _ right (check-places .result) (check-places .ensures)) (c₃ .before .enum-told3 .given .1)
+    (on 4 (sized-finds _ _ right (check-names .result) (check-names .ensures)) (c₂ .before .enum-told5 .given .1)
+    (on 5 (sized-finds _ _ right (check-paths .result) (check-paths .ensures)) (c₁ .before .enum-told7 .given .1)
+    (stops 6 (sized-finds _ _ right (check-content .result) (check-content .ensures))
+    (c .before .enum-told10 .given .1) (c .refusal5 .ensures)))))
 
 check-attributes-requires : tie.Need-check-attributes-requires
 check-attributes-requires c κs = search needs
@@ -130,19 +144,25 @@ refusal-requires-6 c κs = search needs
 
 returns-6 : tie.Need-returns-6
 returns-6 c =
-    let check-rows = c .before .before .before .before .before .before .before .before .before .before .before .before .before .before .before .before .before .before .check-rows in
-    let check-places = c .before .before .before .before .before .before .before .before .before .before .before .before .before .before .before .check-places in
-    let check-names = c .before .before .before .before .before .before .before .before .before .before .before .before .check-names in
-    let check-paths = c .before .before .before .before .before .before .before .before .before .check-paths in
-    let check-content = c .before .before .before .before .before .before .check-content in
-    let check-attributes = c .before .before .before .check-attributes in
-    let right = right-size (found-none _ (check-rows .ensures) (c .before .before .before .before .before .before .before .before .before .before .before .before .before .before .before .before .enum-told .given .1)) in
-    on 2 (check-rows .ensures) (c .before .before .before .before .before .before .before .before .before .before .before .before .before .before .before .before .enum-told .given .1)
-    (on 3 (sized-finds _ _ right (check-places .result) (check-places .ensures)) (c .before .before .before .before .before .before .before .before .before .before .before .before .before .enum-told3 .given .1)
-    (on 4 (sized-finds _ _ right (check-names .result) (check-names .ensures)) (c .before .before .before .before .before .before .before .before .before .before .enum-told5 .given .1)
-    (on 5 (sized-finds _ _ right (check-paths .result) (check-paths .ensures)) (c .before .before .before .before .before .before .before .enum-told7 .given .1)
-    (on 6 (sized-finds _ _ right (check-content .result) (check-content .ensures)) (c .before .before .before .before .enum-told9 .given .1)
-    (stops 7 (sized-finds _ _ right (check-attributes .result) (check-attributes .ensures)) (c .before .enum-told12 .given .1) (c .refusal6 .ensures))))))
+    let c₁ = c .before .before .before in
+    let c₂ = c₁ .before .before .before in
+    let c₃ = c₂ .before .before .before in
+    let c₄ = c₃ .before .before .before in
+    let c₅ = c₄ .before .before .before in
+    let check-rows = c₅ .before .before .before .check-rows in
+    let check-places = c₅ .check-places in
+    let check-names = c₄ .check-names in
+    let check-paths = c₃ .check-paths in
+    let check-content = c₂ .check-content in
+    let check-attributes = c₁ .check-attributes in
+    let right = right-size (found-none _ (check-rows .ensures) (c₅ .before .enum-told .given .1)) in
+    on 2 (check-rows .ensures) (c₅ .before .enum-told .given .1)
+    (on 3 (sized-finds _ _ right (check-places .result) (check-places .ensures)) (c₄ .before .enum-told3 .given .1)
+    (on 4 (sized-finds _ _ right (check-names .result) (check-names .ensures)) (c₃ .before .enum-told5 .given .1)
+    (on 5 (sized-finds _ _ right (check-paths .result) (check-paths .ensures)) (c₂ .before .enum-told7 .given .1)
+    (on 6 (sized-finds _ _ right (check-content .result) (check-content .ensures)) (c₁ .before .enum-told9 .given .1)
+    (stops 7 (sized-finds _ _ right (check-attributes .result) (check-attributes .ensures))
+    (c .before .enum-told12 .given .1) (c .refusal6 .ensures))))))
 
 check-interleaves-requires : tie.Need-check-interleaves-requires
 check-interleaves-requires c κs = search needs
@@ -152,21 +172,28 @@ refusal-requires-7 c κs = search needs
 
 returns-7 : tie.Need-returns-7
 returns-7 c =
-    let check-rows = c .before .before .before .before .before .before .before .before .before .before .before .before .before .before .before .before .before .before .before .check-rows in
-    let check-places = c .before .before .before .before .before .before .before .before .before .before .before .before .before .before .before .before .check-places in
-    let check-names = c .before .before .before .before .before .before .before .before .before .before .before .before .before .check-names in
-    let check-paths = c .before .before .before .before .before .before .before .before .before .before .check-paths in
-    let check-content = c .before .before .before .before .before .before .before .check-content in
-    let check-attributes = c .before .before .before .before .check-attributes in
+    let c₁ = c .before .before .before .before in
+    let c₂ = c₁ .before .before .before in
+    let c₃ = c₂ .before .before .before in
+    let c₄ = c₃ .before .before .before in
+    let c₅ = c₄ .before .before .before in
+    let check-rows = c₅ .before .before .before .check-rows in
+    let check-places = c₅ .check-places in
+    let check-names = c₄ .check-names in
+    let check-paths = c₃ .check-paths in
+    let check-content = c₂ .check-content in
+    let check-attributes = c₁ .check-attributes in
     let check-interleaves = c .before .check-interleaves in
-    let right = right-size (found-none _ (check-rows .ensures) (c .before .before .before .before .before .before .before .before .before .before .before .before .before .before .before .before .before .enum-told .given .1)) in
-    on 2 (check-rows .ensures) (c .before .before .before .before .before .before .before .before .before .before .before .before .before .before .before .before .before .enum-told .given .1)
-    (on 3 (sized-finds _ _ right (check-places .result) (check-places .ensures)) (c .before .before .before .before .before .before .before .before .before .before .before .before .before .before .enum-told3 .given .1)
-    (on 4 (sized-finds _ _ right (check-names .result) (check-names .ensures)) (c .before .before .before .before .before .before .before .before .before .before .before .enum-told5 .given .1)
-    (on 5 (sized-finds _ _ right (check-paths .result) (check-paths .ensures)) (c .before .before .before .before .before .before .before .before .enum-told7 .given .1)
-    (on 6 (sized-finds _ _ right (check-content .result) (check-content .ensures)) (c .before .before .before .before .before .enum-told9 .given .1)
-    (on 7 (sized-finds _ _ right (check-attributes .result) (check-attributes .ensures)) (c .before .before .enum-told11 .given .1)
-    (last-code 8 (check-interleaves .result) (sized-finds _ _ right (check-interleaves .result) (check-interleaves .ensures)) (c .refusal7 .ensures)))))))
+    let right = right-size (found-none _ (check-rows .ensures) (c₅ .before .enum-told .given .1)) in
+    on 2 (check-rows .ensures) (c₅ .before .enum-told .given .1)
+    (on 3 (sized-finds _ _ right (check-places .result) (check-places .ensures)) (c₄ .before .enum-told3 .given .1)
+    (on 4 (sized-finds _ _ right (check-names .result) (check-names .ensures)) (c₃ .before .enum-told5 .given .1)
+    (on 5 (sized-finds _ _ right (check-paths .result) (check-paths .ensures)) (c₂ .before .enum-told7 .given .1)
+    (on 6 (sized-finds _ _ right (check-content .result) (check-content .ensures)) (c₁ .before .enum-told9 .given .1)
+    (on 7 (sized-finds _ _ right (check-attributes .result) (check-attributes .ensures))
+    (c .before .before .enum-told11 .given .1)
+    (last-code 8 (check-interleaves .result)
+    (sized-finds _ _ right (check-interleaves .result) (check-interleaves .ensures)) (c .refusal7 .ensures)))))))
 
 pub check-schema-spec : {M : Type 1} → statement M
 check-schema-spec =

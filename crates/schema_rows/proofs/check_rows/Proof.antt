@@ -18,10 +18,13 @@ enum-told-2 : tie.Need-enum-told-2
 enum-told-2 c = search needs
 
 returns : tie.Need-returns
-returns c = found-first _ (c .before .before .check-size .ensures) (c .enum-told2 .given .1) (λ f clear. size-first (λ r. bad-size) f)
+returns c =
+    found-first _ (c .before .before .check-size .ensures)
+    (c .enum-told2 .given .1) (λ f clear. size-first (λ r. bad-size) f)
 
 first-wrong-row-requires : tie.Need-first-wrong-row-requires
-first-wrong-row-requires c κs = few-rows (found-none _ (c .before .before .check-size .ensures) (c .enum-told .given .1))
+first-wrong-row-requires c κs =
+    few-rows (found-none _ (c .before .before .check-size .ensures) (c .enum-told .given .1))
 
 returns-2 : tie.Need-returns-2
 returns-2 c =

@@ -32,28 +32,52 @@ count-if-requires : tie.Need-count-if-requires Inv-loop μ-loop
 count-if-requires c κs = omega (arith, counts-low (c .before .before .before .loop .inv .1) (c .child-a .result))
 
 cast-child-b : tie.Need-cast-child-b Inv-loop μ-loop
-cast-child-b c = omega (arith, c .before .before .before .before .before .before .loop-test .taken, c .before .before .before .before .before .before .before .before .before .before .pre .0)
+cast-child-b c =
+    let d = c .before .before .before .before .before .before in
+    omega (arith, d .loop-test .taken, d .before .before .before .before .pre .0)
 
 child-b-requires : tie.Need-child-b-requires Inv-loop μ-loop
 child-b-requires c κs = search needs
 
 count-if-requires-2 : tie.Need-count-if-requires-2 Inv-loop μ-loop
-count-if-requires-2 c κs = omega (arith, counted-low true (c .before .before .before .before .before .child-a .result) (c .before .before .before .before .before .before .before .before .loop .counts) (c .before .before .before .before .count-if .ensures) (counts-low (c .before .before .before .before .before .before .before .before .loop .inv .1)) (c .child-b .result), c .before .before .before .before .before .before .before .loop-test .taken, c .before .before .before .before .before .before .before .before .before .before .before .pre .0)
+count-if-requires-2 c κs =
+    let d = c .before .before .before .before .before .before .before in
+    omega (
+      arith,
+      counted-low true (c .before .before .before .before .before .child-a .result)
+          (d .before .loop .counts) (c .before .before .before .before .count-if .ensures)
+          (counts-low (d .before .loop .inv .1)) (c .child-b .result),
+      d .loop-test .taken,
+      d .before .before .before .before .pre .0,
+    )
 
 add-p : tie.Need-add-p Inv-loop μ-loop
-add-p c = omega (arith, c .before .before .before .before .before .before .before .before .before .before .loop-test .taken, c .before .before .before .before .before .before .before .before .before .before .before .before .before .before .pre .0)
+add-p c =
+    let d = c .before .before .before .before .before .before .before .before .before .before in
+    omega (arith, d .loop-test .taken, d .before .before .before .before .pre .0)
 
 loop-less : tie.Need-loop-less Inv-loop μ-loop
-loop-less c = omega (arith, c .before .before .before .before .before .before .before .before .before .before .loop-test .taken)
+loop-less c =
+    omega (arith, c .before .before .before .before .before .before .before .before .before .before .loop-test .taken)
 
 loop-again : tie.Need-loop-again Inv-loop μ-loop
-loop-again c = (omega (arith, c .before .before .before .before .before .before .before .before .before .before .loop-test .taken), rw (c .before .before .count-if2 .ensures, c .before .before .before .before .before .before .before .count-if .ensures) (uses-more (c .before .before .before .before .before .before .before .before .before .before .before .loop .inv .1) (c .before .before .before .before .before .before .before .before .child-a .ensures) (c .before .before .before .child-b .ensures)))
+loop-again c =
+    let d = c .before .before .before .before .before .before .before in (
+      omega (arith, d .before .before .before .loop-test .taken),
+      rw (c .before .before .count-if2 .ensures, d .count-if .ensures)
+          (uses-more (d .before .before .before .before .loop .inv .1)
+          (d .before .child-a .ensures) (c .before .before .before .child-b .ensures)),
+    )
 
 same-length : tie.Need-same-length Inv-loop μ-loop
-same-length c = c .before .loop .inv .1 .size ∙ sym (ap length (c .before .before .before .before .pre .1) ∙ length-replicate {A = ℕ} maxRows 0)
+same-length c =
+    c .before .loop .inv .1 .size
+    ∙ sym (ap length (c .before .before .before .before .pre .1) ∙ length-replicate {A = ℕ} maxRows 0)
 
 returns : tie.Need-returns Inv-loop μ-loop
-returns c = let e : c .before .loop .p ≡ rowsOf (c .before .before .before .before .args .schema .now) = omega arith in rw e at (c .before .loop .inv .1)
+returns c =
+    let e : c .before .loop .p ≡ rowsOf (c .before .before .before .before .args .schema .now) = omega arith in
+    rw e at (c .before .loop .inv .1)
 
 pub count-uses-spec : {M : Type 1} → statement M
 count-uses-spec =

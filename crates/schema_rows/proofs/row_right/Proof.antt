@@ -20,7 +20,11 @@ field-right-requires : tie.Need-field-right-requires
 field-right-requires c κs = search needs
 
 returns : tie.Need-returns
-returns c = rw (tested-a (c .before .before .before .before .before .before .args .strings) (now (c .before .before .before .before .before .before .args .schema)) (c .before .before .before .before .before .before .args .r) (c .before .before .before .before .kind .ensures) (c .before .before .before .shape-of .ensures) (c .before .before .field-a .ensures) (c .before .field-right .ensures) ∙ not-true _ (c .if1 .taken))
+returns c =
+    let d = c .before .before .before in
+    let a = d .before .before .before .args in
+    rw (tested-a (a .strings) (now (a .schema)) (a .r) (d .before .kind .ensures) (d .shape-of .ensures)
+    (c .before .before .field-a .ensures) (c .before .field-right .ensures) ∙ not-true _ (c .if1 .taken))
 
 field-b-requires : tie.Need-field-b-requires
 field-b-requires c κs = search needs
@@ -29,7 +33,16 @@ field-right-requires-2 : tie.Need-field-right-requires-2
 field-right-requires-2 c κs = search needs
 
 returns-2 : tie.Need-returns-2
-returns-2 c = rw (tested-a (c .before .before .before .before .before .before .before .before .before .args .strings) (now (c .before .before .before .before .before .before .before .before .before .args .schema)) (c .before .before .before .before .before .before .before .before .before .args .r) (c .before .before .before .before .before .before .before .kind .ensures) (c .before .before .before .before .before .before .shape-of .ensures) (c .before .before .before .before .before .field-a .ensures) (c .before .before .before .before .field-right .ensures) ∙ not-false _ (c .before .before .before .if1 .left), tested-b (c .before .before .before .before .before .before .before .before .before .args .strings) (now (c .before .before .before .before .before .before .before .before .before .args .schema)) (c .before .before .before .before .before .before .before .before .before .args .r) (c .before .before .before .before .before .before .before .kind .ensures) (c .before .before .before .before .before .before .shape-of .ensures) (c .before .before .field-b .ensures) (c .before .field-right2 .ensures) ∙ not-true _ (c .if2 .taken))
+returns-2 c =
+    let c₁ = c .before .before .before in
+    let c₂ = c₁ .before .before .before in
+    let a = c₂ .before .before .before .args in
+    rw (
+      tested-a (a .strings) (now (a .schema)) (a .r) (c₂ .before .kind .ensures) (c₂ .shape-of .ensures)
+          (c₁ .before .before .field-a .ensures) (c₁ .before .field-right .ensures) ∙ not-false _ (c₁ .if1 .left),
+      tested-b (a .strings) (now (a .schema)) (a .r) (c₂ .before .kind .ensures) (c₂ .shape-of .ensures)
+          (c .before .before .field-b .ensures) (c .before .field-right2 .ensures) ∙ not-true _ (c .if2 .taken),
+    )
 
 add-sort-right : tie.Need-add-sort-right
 add-sort-right c = search needs
@@ -38,7 +51,19 @@ sort-right-requires : tie.Need-sort-right-requires
 sort-right-requires c κs = search needs
 
 returns-3 : tie.Need-returns-3
-returns-3 c = c .sort-right .ensures ∙ rw (tested-a (c .before .before .before .before .before .before .before .before .before .before .args .strings) (now (c .before .before .before .before .before .before .before .before .before .before .args .schema)) (c .before .before .before .before .before .before .before .before .before .before .args .r) (c .before .before .before .before .before .before .before .before .kind .ensures) (c .before .before .before .before .before .before .before .shape-of .ensures) (c .before .before .before .before .before .before .field-a .ensures) (c .before .before .before .before .before .field-right .ensures) ∙ not-false _ (c .before .before .before .before .if1 .left), tested-b (c .before .before .before .before .before .before .before .before .before .before .args .strings) (now (c .before .before .before .before .before .before .before .before .before .before .args .schema)) (c .before .before .before .before .before .before .before .before .before .before .args .r) (c .before .before .before .before .before .before .before .before .kind .ensures) (c .before .before .before .before .before .before .before .shape-of .ensures) (c .before .before .before .field-b .ensures) (c .before .before .field-right2 .ensures) ∙ not-false _ (c .before .if2 .left), c .before .before .before .before .before .before .before .shape-of .ensures, c .before .before .before .before .before .before .before .before .kind .ensures)
+returns-3 c =
+    let c₁ = c .before .before .before .before in
+    let c₂ = c₁ .before .before .before in
+    let a = c₂ .before .before .before .args in
+    c .sort-right .ensures ∙ rw (
+      tested-a (a .strings) (now (a .schema)) (a .r) (c₂ .before .kind .ensures) (c₂ .shape-of .ensures)
+          (c₁ .before .before .field-a .ensures) (c₁ .before .field-right .ensures) ∙ not-false _ (c₁ .if1 .left),
+      tested-b (a .strings) (now (a .schema)) (a .r) (c₂ .before .kind .ensures) (c₂ .shape-of .ensures)
+          (c .before .before .before .field-b .ensures) (c .before .before .field-right2 .ensures)
+          ∙ not-false _ (c .before .if2 .left),
+      c₂ .shape-of .ensures,
+      c₂ .before .kind .ensures,
+    )
 
 pub row-right-spec : {M : Type 1} → statement M
 row-right-spec =

@@ -36,7 +36,16 @@ cast-t11 : tie.Need-cast-t11 Inv-loop μ-loop
 cast-t11 c = omega (arith, c .before .before .before .before .before .before .before .pre .0)
 
 returns : tie.Need-returns Inv-loop μ-loop
-returns c = ((c .before .before .before .loop-test .taken, row-tested (c .before .before .before .before .before .before .before .args .strings) (c .before .before .before .before .before .before .before .pre .1) (omega (arith, c .before .before .before .loop-test .taken, c .before .before .before .before .before .before .before .pre .0)) (c .before .before .word .ensures) (c .before .row-right .ensures) ∙ not-true _ (c .if1 .taken)), c .before .before .before .before .loop .inv .1)
+returns c =
+    let c₁ = c .before .before .before in
+    let c₂ = c₁ .before .before .before .before in (
+      (
+        c₁ .loop-test .taken,
+        row-tested (c₂ .args .strings) (c₂ .pre .1) (omega (arith, c₁ .loop-test .taken, c₂ .pre .0))
+            (c .before .before .word .ensures) (c .before .row-right .ensures) ∙ not-true _ (c .if1 .taken),
+      ),
+      c₁ .before .loop .inv .1,
+    )
 
 add-r : tie.Need-add-r Inv-loop μ-loop
 add-r c = omega arith
@@ -45,7 +54,16 @@ loop-less : tie.Need-loop-less Inv-loop μ-loop
 loop-less c = omega arith
 
 loop-again : tie.Need-loop-again Inv-loop μ-loop
-loop-again c = (omega arith, below-more _ _ (c .before .before .before .before .loop .inv .1) (λ f. true≢false (sym (row-tested (c .before .before .before .before .before .before .before .args .strings) (c .before .before .before .before .before .before .before .pre .1) (omega (arith, c .before .before .before .loop-test .taken, c .before .before .before .before .before .before .before .pre .0)) (c .before .before .word .ensures) (c .before .row-right .ensures) ∙ not-false _ (c .if1 .left)) ∙ f .1)))
+loop-again c =
+    let d = c .before .before .before .before .before .before .before in (
+      omega arith,
+      below-more _ _ (c .before .before .before .before .loop .inv .1)
+          (λ f. true≢false (sym (row-tested (d .args .strings) (d .pre .1) (omega (
+            arith,
+            c .before .before .before .loop-test .taken,
+            d .pre .0,
+          )) (c .before .before .word .ensures) (c .before .row-right .ensures) ∙ not-false _ (c .if1 .left)) ∙ f .1)),
+    )
 
 returns-2 : tie.Need-returns-2 Inv-loop μ-loop
 returns-2 c = finds-none _ (c .before .loop .inv .1) (λ k f. omega (arith, f .0))

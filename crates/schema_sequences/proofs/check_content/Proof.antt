@@ -21,7 +21,9 @@ first-clash-requires : tie.Need-first-clash-requires
 first-clash-requires c κs = found-none _ (c .before .before .check-size .ensures) (c .enum-told .given .1)
 
 returns-2 : tie.Need-returns-2
-returns-2 c = sized-on _ _ (c .before .before .before .check-size .ensures) (c .before .enum-told .given .1) (c .first-clash .result) (c .first-clash .ensures)
+returns-2 c =
+    sized-on _ _ (c .before .before .before .check-size .ensures)
+    (c .before .enum-told .given .1) (c .first-clash .result) (c .first-clash .ensures)
 
 pub check-content-spec : {M : Type 1} → statement M
 check-content-spec =

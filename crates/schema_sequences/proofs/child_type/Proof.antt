@@ -11,10 +11,15 @@ word-requires : tie.Need-word-requires
 word-requires c κs = search needs
 
 returns : tie.Need-returns
-returns c = rw (c .word .ensures) (c .before .before .before .before .pre .1 .known (c .before .before .before .before .args .child) (c .before .if1 .taken))
+returns c =
+    let d = c .before .before .before .before in
+    rw (c .word .ensures) (d .pre .1 .known (d .args .child) (c .before .if1 .taken))
 
 returns-2 : tie.Need-returns-2
-returns-2 c = no-row-type (c .before .before .before .args .schema .now) (c .before .before .before .args .child) (c .before .before .before .pre .0) (⊎-elim (λ l. absurd (omega arith)) (λ e. omega (arith, few-rows (c .before .before .before .pre .0))) (c .before .before .before .pre .2))
+returns-2 c =
+    let d = c .before .before .before in
+    no-row-type (d .args .schema .now) (d .args .child) (d .pre .0)
+    (⊎-elim (λ l. absurd (omega arith)) (λ e. omega (arith, few-rows (d .pre .0))) (d .pre .2))
 
 pub child-type-spec : {M : Type 1} → statement M
 child-type-spec = tie.close (tie.spec word-requires returns returns-2)

@@ -24,4 +24,6 @@ returns : tie.Need-returns
 returns c = search needs
 
 pub first-clash-spec : {M : Type 1} → statement M
-first-clash-spec = tie.close (tie.spec slice-aggregate-mark-listed mark-listed-requires slice-aggregate-scan-types slice-aggregate-scan-types-2 scan-types-requires returns)
+first-clash-spec =
+    tie.close (tie.spec slice-aggregate-mark-listed mark-listed-requires
+    slice-aggregate-scan-types slice-aggregate-scan-types-2 scan-types-requires returns)

@@ -13,7 +13,9 @@ word-requires : tie.Need-word-requires
 word-requires c κs = search needs
 
 same-length : tie.Need-same-length
-same-length c = let pre = c .before .before .before .before .before .before .before .before .before .pre in c .before .before .before .before .type-row .ensures .1 .size ∙ sym (pre .2 .size)
+same-length c =
+    let pre = c .before .before .before .before .before .before .before .before .before .pre in
+    c .before .before .before .before .type-row .ensures .1 .size ∙ sym (pre .2 .size)
 
 returns : tie.Need-returns
 returns c =
@@ -22,7 +24,9 @@ returns c =
     (clash-judged (pre .1) (said-yes (typed .0) (c .before .if1 .taken)) (c .word .ensures), typed .1)
 
 same-length-2 : tie.Need-same-length-2
-same-length-2 c = let pre = c .before .before .before .before .before .before .before .before .pre in c .before .before .before .type-row .ensures .1 .size ∙ sym (pre .2 .size)
+same-length-2 c =
+    let pre = c .before .before .before .before .before .before .before .before .pre in
+    c .before .before .before .type-row .ensures .1 .size ∙ sym (pre .2 .size)
 
 returns-2 : tie.Need-returns-2
 returns-2 c =

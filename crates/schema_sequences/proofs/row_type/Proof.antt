@@ -82,18 +82,31 @@ returns-8 c = c .type-if3 .ensures ∙ rw (c .before .fits-together .ensures, c 
 
 returns-9 : tie.Need-returns-9
 unfolding typeBy
-returns-9 c = c .type-if4 .ensures ∙ rw (c .before .larger .ensures, c .before .before .both-typed .ensures, c .before .before .before .match .keys9)
+returns-9 c =
+    c .type-if4 .ensures
+    ∙ rw (c .before .larger .ensures, c .before .before .both-typed .ensures, c .before .before .before .match .keys9)
 
 returns-10 : tie.Need-returns-10
 unfolding typeBy
-returns-10 c = c .type-if5 .ensures ∙ rw (c .before .larger2 .ensures, c .before .before .fits-together2 .ensures, c .before .before .before .match .keys10)
+returns-10 c =
+    c .type-if5 .ensures ∙ rw (
+      c .before .larger2 .ensures,
+      c .before .before .fits-together2 .ensures,
+      c .before .before .before .match .keys10,
+    )
 
 returns-11 : tie.Need-returns-11
 unfolding typeBy
-returns-11 c = c .type-if6 .ensures ∙ rw (c .before .larger3 .ensures, c .before .before .fits-together3 .ensures, c .before .before .before .match .keys11)
+returns-11 c =
+    c .type-if6 .ensures ∙ rw (
+      c .before .larger3 .ensures,
+      c .before .before .fits-together3 .ensures,
+      c .before .before .before .match .keys11,
+    )
 
 returns-12 : tie.Need-returns-12
-returns-12 c = type-other (c .before .args .kind) (c .before .args .b) (c .before .args .c) (c .before .args .d) (c .match .rest)
+returns-12 c =
+    type-other (c .before .args .kind) (c .before .args .b) (c .before .args .c) (c .before .args .d) (c .match .rest)
 
 pub row-type-spec : {M : Type 1} → statement M
 row-type-spec =

@@ -15,13 +15,17 @@ child-a-requires : tie.Need-child-a-requires
 child-a-requires c κs = search needs
 
 child-type-requires : tie.Need-child-type-requires
-child-type-requires c κs = (c .before .before .before .before .before .pre .0, c .before .before .before .before .before .pre .1, rw (c .child-a .ensures) (child-a-row (c .before .before .before .before .before .args .schema .now) (c .before .before .before .before .before .args .r)))
+child-type-requires c κs =
+    let d = c .before .before .before .before .before in
+    (d .pre .0, d .pre .1, rw (c .child-a .ensures) (child-a-row (d .args .schema .now) (d .args .r)))
 
 child-b-requires : tie.Need-child-b-requires
 child-b-requires c κs = search needs
 
 child-type-requires-2 : tie.Need-child-type-requires-2
-child-type-requires-2 c κs = (c .before .before .before .before .before .before .before .before .pre .0, c .before .before .before .before .before .before .before .before .pre .1, rw (c .child-b .ensures) (child-b-row (c .before .before .before .before .before .before .before .before .args .schema .now) (c .before .before .before .before .before .before .before .before .args .r)))
+child-type-requires-2 c κs =
+    let d = c .before .before .before .before .before .before .before .before in
+    (d .pre .0, d .pre .1, rw (c .child-b .ensures) (child-b-row (d .args .schema .now) (d .args .r)))
 
 field-b-requires : tie.Need-field-b-requires
 field-b-requires c κs = search needs
@@ -33,7 +37,9 @@ mul-types : tie.Need-mul-types
 mul-types c = search needs
 
 slice-write-types : tie.Need-slice-write-types
-slice-write-types c = omega (arith, c .before .before .before .before .before .before .before .before .before .before .before .pre .2, c .before .before .before .before .before .before .before .before .before .before .before .pre .1 .size, few-rows (c .before .before .before .before .before .before .before .before .before .before .before .pre .0))
+slice-write-types c =
+    let pre = c .before .before .before .before .before .before .before .before .before .before .before .pre in
+    omega (arith, pre .2, pre .1 .size, few-rows (pre .0))
 
 row-clashes-requires : tie.Need-row-clashes-requires
 row-clashes-requires c κs = search needs
@@ -43,9 +49,14 @@ same-length c = search needs
 
 returns : tie.Need-returns
 returns c =
-    let a = c .before .before .before .before .before .before .before .before .before .before .before .before .args in
-    let judged = row-judged (a .schema .now) (a .r) (c .before .before .before .before .before .before .before .before .before .kind .ensures) (c .before .before .field-b .ensures) (c .before .before .before .before .before .before .before .child-a .ensures) (c .before .before .before .before .child-b .ensures) (c .before .before .before .before .before .before .child-type .ensures) (c .before .before .before .child-type2 .ensures) (c .row-clashes .ensures) (c .before .row-type .ensures) in
-    (judged .0, types-more (c .before .before .before .before .before .before .before .before .before .before .before .before .pre .1) (omega (arith, c .before .before .before .before .before .before .before .before .before .before .before .before .pre .2, few-rows (c .before .before .before .before .before .before .before .before .before .before .before .before .pre .0))) (judged .1))
+    let c₁ = c .before .before .before in
+    let c₂ = c₁ .before .before .before in
+    let c₃ = c₂ .before .before .before .before .before .before in
+    let a = c₃ .args in
+    let judged = row-judged (a .schema .now) (a .r) (c₂ .before .before .before .kind .ensures)
+    (c .before .before .field-b .ensures) (c₂ .before .child-a .ensures) (c₁ .before .child-b .ensures)
+    (c₂ .child-type .ensures) (c₁ .child-type2 .ensures) (c .row-clashes .ensures) (c .before .row-type .ensures) in
+    (judged .0, types-more (c₃ .pre .1) (omega (arith, c₃ .pre .2, few-rows (c₃ .pre .0))) (judged .1))
 
 pub type-row-spec : {M : Type 1} → statement M
 type-row-spec =

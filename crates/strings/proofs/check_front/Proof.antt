@@ -23,7 +23,9 @@ returns-4 : tie.Need-returns-4
 returns-4 c = (first-not-empty (c .if4 .taken) refl, below-none _)
 
 returns-5 : tie.Need-returns-5
-returns-5 c = front-right (c .before .before .before .before .if1 .left) (c .before .before .before .if2 .left) (c .before .before .if3 .left) (c .if4 .left)
+returns-5 c =
+    front-right (c .before .before .before .before .if1 .left)
+    (c .before .before .before .if2 .left) (c .before .before .if3 .left) (c .if4 .left)
 
 pub check-front-spec : {M : Type 1} → statement M
 check-front-spec =

@@ -19,10 +19,13 @@ returns : tie.Need-returns
 returns c = found-first _ (c .before .before .check-ends .ensures) (c .enum-told2 .given .1) first-bad-end
 
 first-repeat-requires : tie.Need-first-repeat-requires
-first-repeat-requires c κs = few-strings (λ k f. found-none _ (c .before .before .check-ends .ensures) (c .enum-told .given .1) k (at-front f))
+first-repeat-requires c κs =
+    few-strings (λ k f. found-none _ (c .before .before .check-ends .ensures) (c .enum-told .given .1) k (at-front f))
 
 returns-2 : tie.Need-returns-2
-returns-2 c = let right = found-none _ (c .before .before .before .check-ends .ensures) (c .before .enum-told .given .1) in finds-same (c .first-repeat .result) (λ k f. repeated right f) (only-repeats right) (c .first-repeat .ensures)
+returns-2 c =
+    let right = found-none _ (c .before .before .before .check-ends .ensures) (c .before .enum-told .given .1) in
+    finds-same (c .first-repeat .result) (λ k f. repeated right f) (only-repeats right) (c .first-repeat .ensures)
 
 pub check-strings-spec : {M : Type 1} → statement M
 check-strings-spec =

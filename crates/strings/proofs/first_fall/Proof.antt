@@ -35,7 +35,9 @@ cast-t9 : tie.Need-cast-t9 Inv-loop μ-loop
 cast-t9 c = omega arith
 
 returns : tie.Need-returns Inv-loop μ-loop
-returns c = ((c .before .before .before .loop-test .taken, rw (c .before .start .ensures) at (c .if1 .taken)), c .before .before .before .before .loop .inv .1)
+returns c =
+    let d = c .before .before .before in
+    ((d .loop-test .taken, rw (c .before .start .ensures) at (c .if1 .taken)), d .before .loop .inv .1)
 
 add-k : tie.Need-add-k Inv-loop μ-loop
 add-k c = omega arith
@@ -44,7 +46,11 @@ loop-less : tie.Need-loop-less Inv-loop μ-loop
 loop-less c = omega arith
 
 loop-again : tie.Need-loop-again Inv-loop μ-loop
-loop-again c = (omega arith, below-more _ _ (c .before .before .before .before .loop .inv .1) (λ f. omega (arith, f .1, c .if1 .left, c .before .start .ensures)))
+loop-again c = (
+  omega arith,
+  below-more _ _ (c .before .before .before .before .loop .inv .1)
+      (λ f. omega (arith, f .1, c .if1 .left, c .before .start .ensures)),
+)
 
 returns-2 : tie.Need-returns-2 Inv-loop μ-loop
 returns-2 c = finds-none _ (c .before .loop .inv .1) (λ k f. omega (arith, f .0))

@@ -16,7 +16,9 @@ use Rattle.strings.proofs.first_repeat.Statement.{statement}
 use Rattle.strings.proofs.first_repeat.Tie as tie
 
 abbrev Inv-loop : tie.InvT-loop
-Inv-loop bytes ends last₀ prior₀ k₀ last prior k = (k ≤ length ends) × Clear (RepeatsText (stringTable bytes ends)) k × Lasts (stringTable bytes ends) last k × (length prior ≡ 512) × Linked (stringTable bytes ends) prior k
+Inv-loop bytes ends last₀ prior₀ k₀ last prior k =
+    (k ≤ length ends) × Clear (RepeatsText (stringTable bytes ends)) k
+    × Lasts (stringTable bytes ends) last k × (length prior ≡ 512) × Linked (stringTable bytes ends) prior k
 
 abbrev μ-loop : tie.MeasureT-loop
 μ-loop bytes ends last₀ prior₀ k₀ last prior k = length ends - k
@@ -34,16 +36,27 @@ mul-m : tie.Need-mul-m Inv-loop μ-loop
 mul-m c = omega (arith, told-less (now (c .before .text .result)) (c .hash .ensures))
 
 array-read-m : tie.Need-array-read-m Inv-loop μ-loop
-array-read-m c = let i = c .before .before .before .loop .inv in omega (arith, told-less (now (c .before .text .result)) (c .hash .ensures), i .2 .size)
+array-read-m c =
+    let i = c .before .before .before .loop .inv in
+    omega (arith, told-less (now (c .before .text .result)) (c .hash .ensures), i .2 .size)
 
 repeats-requires : tie.Need-repeats-requires Inv-loop μ-loop
-repeats-requires c κs = let i = c .before .before .before .before .loop .inv in (omega arith, omega arith, last-told (c .before .hash .ensures) (c .before .before .text .ensures .holds) (i .2), i .4)
+repeats-requires c κs =
+    let i = c .before .before .before .before .loop .inv in (
+      omega arith,
+      omega arith,
+      last-told (c .before .hash .ensures) (c .before .before .text .ensures .holds) (i .2),
+      i .4,
+    )
 
 cast-t16 : tie.Need-cast-t16 Inv-loop μ-loop
 cast-t16 c = omega arith
 
 returns : tie.Need-returns Inv-loop μ-loop
-returns c = (said-yes (c .before .repeats .ensures) (c .if1 .taken), c .before .before .before .before .before .before .loop .inv .1)
+returns c = (
+  said-yes (c .before .repeats .ensures) (c .if1 .taken),
+  c .before .before .before .before .before .before .loop .inv .1,
+)
 
 mul-prior : tie.Need-mul-prior Inv-loop μ-loop
 mul-prior c = omega arith
@@ -58,10 +71,15 @@ add-last : tie.Need-add-last Inv-loop μ-loop
 add-last c = omega arith
 
 mul-last : tie.Need-mul-last Inv-loop μ-loop
-mul-last c = omega (arith, told-less (now (c .before .before .before .before .text .result)) (c .before .before .before .hash .ensures))
+mul-last c =
+    let d = c .before .before .before in
+    omega (arith, told-less (now (d .before .text .result)) (d .hash .ensures))
 
 array-write-last : tie.Need-array-write-last Inv-loop μ-loop
-array-write-last c = let i = c .before .before .before .before .before .before .loop .inv in omega (arith, told-less (now (c .before .before .before .before .text .result)) (c .before .before .before .hash .ensures), i .2 .size)
+array-write-last c =
+    let d = c .before .before .before in
+    let i = d .before .before .before .loop .inv in
+    omega (arith, told-less (now (d .before .text .result)) (d .hash .ensures), i .2 .size)
 
 add-k : tie.Need-add-k Inv-loop μ-loop
 add-k c = omega arith
@@ -70,7 +88,17 @@ loop-less : tie.Need-loop-less Inv-loop μ-loop
 loop-less c = omega arith
 
 loop-again : tie.Need-loop-again Inv-loop μ-loop
-loop-again c = let i = c .before .before .before .before .before .before .loop .inv in let z = i .3 in (omega arith, below-more _ _ (i .1) (said-no (c .before .repeats .ensures) (c .if1 .left)), lasts-told (c .before .before .before .hash .ensures) (c .before .before .before .before .text .ensures .holds) _ refl (i .2), simp length-set z, linked-more (c .before .before .before .before .before .before .loop .prior) (omega arith) (last-told (c .before .before .before .hash .ensures) (c .before .before .before .before .text .ensures .holds) (i .2)) (i .4))
+loop-again c =
+    let d = c .before .before .before in
+    let i = d .before .before .before .loop .inv in
+    let z = i .3 in (
+      omega arith,
+      below-more _ _ (i .1) (said-no (c .before .repeats .ensures) (c .if1 .left)),
+      lasts-told (d .hash .ensures) (d .before .text .ensures .holds) _ refl (i .2),
+      simp length-set z,
+      linked-more (d .before .before .before .loop .prior) (omega arith)
+          (last-told (d .hash .ensures) (d .before .text .ensures .holds) (i .2)) (i .4),
+    )
 
 returns-2 : tie.Need-returns-2 Inv-loop μ-loop
 returns-2 c = finds-none _ (c .before .loop .inv .1) (λ k f. omega (arith, f .0))

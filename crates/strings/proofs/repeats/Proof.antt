@@ -35,7 +35,17 @@ same-bytes-requires : tie.Need-same-bytes-requires Inv-loop μ-loop
 same-bytes-requires c κs = search needs
 
 returns : tie.Need-returns Inv-loop μ-loop
-returns c = let i = c .before .before .before .before .loop .inv in let l = i .low in (c .before .before .before .before .before .before .before .before .pre .0, (c .before .before .before .before .loop .m - 1, omega arith, sym (c .before .before .text2 .ensures .holds) ∙ said-yes (c .before .same-bytes .ensures) (c .if1 .taken) ∙ c .before .before .before .before .before .text .ensures .holds))
+returns c =
+    let i = c .before .before .before .before .loop .inv in
+    let l = i .low in (
+      c .before .before .before .before .before .before .before .before .pre .0,
+      (
+        c .before .before .before .before .loop .m - 1,
+        omega arith,
+        sym (c .before .before .text2 .ensures .holds) ∙ said-yes (c .before .same-bytes .ensures) (c .if1 .taken)
+            ∙ c .before .before .before .before .before .text .ensures .holds,
+      ),
+    )
 
 mul-m : tie.Need-mul-m Inv-loop μ-loop
 mul-m c = search needs
@@ -44,10 +54,21 @@ element-copy-out-m : tie.Need-element-copy-out-m Inv-loop μ-loop
 element-copy-out-m c = search needs
 
 loop-less : tie.Need-loop-less Inv-loop μ-loop
-loop-less c = let i = c .before .before .before .before .before .loop .inv in let b = i .low in let l = c .before .before .before .before .before .before .before .before .before .pre .3 (c .before .before .before .before .before .loop .m - 1) (omega arith) .low in omega arith
+loop-less c =
+    let i = c .before .before .before .before .before .loop .inv in
+    let b = i .low in
+    let l = c .before .before .before .before .before .before .before .before .before .pre .3
+    (c .before .before .before .before .before .loop .m - 1) (omega arith) .low in
+    omega arith
 
 loop-again : tie.Need-loop-again Inv-loop μ-loop
-loop-again c = let e : suc (c .before .before .before .before .before .loop .m - 1) ≡ c .before .before .before .before .before .loop .m = omega arith in walk-step (now (c .before .before .before .before .before .before .before .before .before .args .prior)) (c .before .before .before .before .before .loop .m - 1) e (c .before .before .before .before .before .before .before .before .before .pre .3) (λ z. said-no (c .before .before .same-bytes .ensures) (c .before .if1 .left) (c .before .before .before .text2 .ensures .holds ∙ z ∙ sym (c .before .before .before .before .before .before .text .ensures .holds))) (c .before .before .before .before .before .loop .inv)
+loop-again c =
+    let c₁ = c .before .before .before .before .before in
+    let c₂ = c₁ .before .before .before .before in
+    let e : suc (c₁ .loop .m - 1) ≡ c₁ .loop .m = omega arith in
+    walk-step (now (c₂ .args .prior)) (c₁ .loop .m - 1) e (c₂ .pre .3)
+    (λ z. said-no (c .before .before .same-bytes .ensures) (c .before .if1 .left)
+    (c .before .before .before .text2 .ensures .holds ∙ z ∙ sym (c₁ .before .text .ensures .holds))) (c₁ .loop .inv)
 
 returns-2 : tie.Need-returns-2 Inv-loop μ-loop
 returns-2 c = λ r. c .before .loop .inv .later (r .1 .0) (omega arith) (r .1 .1) (r .1 .2)

@@ -19,7 +19,9 @@ returns : tie.Need-returns
 returns c = search needs
 
 returns-2 : tie.Need-returns-2
-returns-2 c = c .word .ensures ∙ sym (start-after (now (c .before .before .before .args .ends)) (c .before .before .before .args .k) (c .before .if1 .left))
+returns-2 c =
+    let a = c .before .before .before .args in
+    c .word .ensures ∙ sym (start-after (now (a .ends)) (a .k) (c .before .if1 .left))
 
 pub start-spec : {M : Type 1} → statement M
 start-spec = tie.close (tie.spec sub-word word-requires cast-result returns returns-2)

@@ -26,7 +26,9 @@ slice-aggregate-result : tie.Need-slice-aggregate-result
 slice-aggregate-result c = search needs
 
 returns : tie.Need-returns
-returns c = let fault = found-at _ (c .before .before .before .check-strings .ensures) (c .before .enum-told2 .given .1) .0 in record { in-table = λ right h. absurd (right _ fault); not-in-table = λ h. refl; rule-broken = λ p f. refl }
+returns c =
+    let fault = found-at _ (c .before .before .before .check-strings .ensures) (c .before .enum-told2 .given .1) .0 in
+    record { in-table = λ right h. absurd (right _ fault); not-in-table = λ h. refl; rule-broken = λ p f. refl }
 
 slice-aggregate-result-2 : tie.Need-slice-aggregate-result-2
 slice-aggregate-result-2 c = search needs
@@ -44,10 +46,12 @@ returns-3 c =
       in-table = λ right h. (
           let below = start-before-end (ends-of right) (a .k) h in
           let within = end-within (ends-of right) (length (a .ends .now) - suc (a .k)) (a .k) (omega arith) in
-          rw (in-order (a .bytes .now) (startOf (a .ends .now) (a .k)) (endOf (a .ends .now) (a .k)) below (le-trans below within)) at (c .text .ensures .lies)
+          rw (in-order (a .bytes .now) (startOf (a .ends .now) (a .k)) (endOf (a .ends .now) (a .k))
+          below (le-trans below within)) at (c .text .ensures .lies)
           );
       not-in-table = λ h. absurd (omega arith);
-      rule-broken = λ place f. absurd (found-none _ (c .before .before .before .before .check-strings .ensures) (c .before .before .enum-told .given .1) place f);
+      rule-broken = λ place f. absurd (found-none _ (c .before .before .before .before .check-strings .ensures)
+          (c .before .before .enum-told .given .1) place f);
     }
 
 pub string-text-spec : {M : Type 1} → statement M

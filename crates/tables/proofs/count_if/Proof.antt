@@ -20,7 +20,10 @@ same-length : tie.Need-same-length
 same-length c = search needs
 
 returns-2 : tie.Need-returns-2
-returns-2 c = rw (not-false (c .before .before .before .before .before .before .before .before .args .wanted) (c .before .before .before .before .before .before .if1 .left), ← c .before .before .before .before .word .ensures) (c .before .before .put-u32 .ensures)
+returns-2 c =
+    let d = c .before .before .before .before in
+    rw (not-false (d .before .before .before .before .args .wanted) (d .before .before .if1 .left), ← d .word .ensures)
+    (c .before .before .put-u32 .ensures)
 
 pub count-if-spec : {M : Type 1} → statement M
 count-if-spec =

@@ -35,10 +35,18 @@ cast-length : tie.Need-cast-length
 cast-length c = search needs
 
 array-share-prefix-out : tie.Need-array-share-prefix-out
-array-share-prefix-out c = let l = c .out2 .given in let r = c .before .report .ensures .1 in let s = length-replicate {A = ℕ} 131072 0 in omega arith
+array-share-prefix-out c =
+    let l = c .out2 .given in
+    let r = c .before .report .ensures .1 in
+    let s = length-replicate {A = ℕ} 131072 0 in
+    omega arith
 
 slice-aggregate-write-all : tie.Need-slice-aggregate-write-all
-slice-aggregate-write-all c = let l = c .before .out2 .given in let r = c .before .before .report .ensures .1 in let s = length-replicate {A = ℕ} 131072 0 in sym (length-take-le (c .before .before .report .result) (c .before .before .report .last .1 .0) (omega arith))
+slice-aggregate-write-all c =
+    let l = c .before .out2 .given in
+    let r = c .before .before .report .ensures .1 in
+    let s = length-replicate {A = ℕ} 131072 0 in
+    sym (length-take-le (c .before .before .report .result) (c .before .before .report .last .1 .0) (omega arith))
 
 write-all-requires : tie.Need-write-all-requires
 write-all-requires c κs = search needs
