@@ -1,44 +1,29 @@
 #!/usr/bin/env python3
 """Rules of the repository that the prover does not see. Each rule is tried at each place that it speaks of.
 
-A test file that tests/parts.txt does not list, a dependency in crates.txt that is not direct, a public function without
-a promise in docs/PROMISES.md or with one that holds under a premise, a call of a user with a `requires`, a function
-without an `ensures`, a long function or proof file, a kind of a schema row as a bare number, a definition or a contract
-that rests on a proof, a wrong answer that no promise names or that a promise names in vain, a crate without a line in
-the map or in the times, a hole or an axiom in a proof, a name of the library with another meaning, a name that two
-definitions have, a comment wider than 120 columns, a contract wider than 160.
+A test file that tests/parts.txt does not list, a dependency in crates.txt that is not direct, a call of a user with a
+`requires`, a public function without a comment, without two wrong answers or with a promise that holds under a premise,
+a function without an `ensures`, a long function or proof file, a kind of a schema row as a bare number, a definition or
+a contract that rests on a proof, a wrong answer with the label of another or for no public function, a hole or an axiom
+in a proof, a name of the library with another meaning, a name that two definitions have, a line wider than 120 columns,
+a contract wider than 160.
 """
 import glob
 import os
 import re
+import subprocess
 import sys
 
-os.chdir(os.path.join(os.path.dirname(os.path.abspath(__file__)), ".."))
-passed = failed = 0
+sys.dont_write_bytecode = True
+sys.path.insert(0, os.path.join(os.path.dirname(os.path.abspath(__file__)), "support"))
+from tally import end, hold, read
+import functions
 
-
-def hold(ok, what):
-    global passed, failed
-    if ok:
-        passed += 1
-    else:
-        failed += 1
-        print("FAILED", what)
-
-
-def read(path):
-    with open(path, encoding="utf8") as f:
-        return f.read()
-
-
-promises = read("docs/PROMISES.md")
-architecture = read("docs/ARCHITECTURE.md")
-times = read("docs/CHECK-TIMES.md")
 lists = dict(line.split(":") for line in read("crates.txt").splitlines() if line.strip() and not line.startswith("#"))
 crates = list(lists)
 
 listed = read("tests/parts.txt").split()
-present = {os.path.basename(p) for p in glob.glob("tests/*.rs") + glob.glob("tests/*.py")}
+present = {os.path.basename(p) for end in ["c", "py", "rs"] for p in glob.glob(f"tests/*.{end}")}
 for name in sorted(present | set(listed)):
     hold(name in present and listed.count(name) == 1, f"tests/parts.txt and the file tests/{name}")
 
@@ -55,8 +40,6 @@ def named_by(crate):
 for crate in crates:
     named = named_by(crate)
     hold(set(lists[crate].split()) == named, f"crates.txt: {crate} depends on {' '.join(sorted(named))} and no other")
-    hold(f"`{crate}`" in architecture, f"crate {crate} in docs/ARCHITECTURE.md")
-    hold(f"| `{crate}` |" in times, f"crate {crate} in docs/CHECK-TIMES.md")
 
 # What a user calls: its promise holds for every input.
 CALLS = {
@@ -82,11 +65,6 @@ KIND = r"(?:schema::kind\([^{}]*?\)|kind)"
 KIND_MATCH = re.compile(r"^( *)[^\n]*\bmatch %s \{$(.*?)^\1\}" % KIND, re.M | re.S)
 KIND_ARM = re.compile(r"^ *\d[\d_]*(?:u32)?(?: *(?:\.\.=?|\|) *[\w:]+)* *=>", re.M)
 KIND_TEST = re.compile(r"\b%s *(?:[=!<>]=|[<>]) *\d|\b\d+(?:u32)? *(?:[=!<>]=|[<>]) *%s\b" % (KIND, KIND))
-
-
-def wide_comments(text, mark):
-    """The comments on lines of their own that are wider than 120 columns."""
-    return [line.strip() for line in text.splitlines() if len(line) > 120 and line.strip().startswith(mark)]
 
 
 def numbered_kinds(code):
@@ -116,10 +94,6 @@ for path in sorted(glob.glob("crates/*/src/*.rt")):
         if m.group(2).startswith("pub"):
             promise = contract[contract.find("ensures") :]
             hold("→" not in promise, f"{place} is public and promises without a premise")
-            hold(f"`{place}`" in promises, f"{place} in docs/PROMISES.md")
-    hold(not wide_comments(text, "//"), f"{path} has comments of 120 columns: {wide_comments(text, '//')}")
-    wide = [n for n, line in enumerate(text.splitlines(), 1) if len(line) > 160 and not line.startswith("ghost use")]
-    hold(not wide, f"{path} has contracts of 160 columns: lines {wide}")
     code = re.sub(r"//.*", "", text)
     hold(".proofs." not in code, f"{path} cites no proof")
     if crate != "schema":
@@ -134,7 +108,7 @@ TOP = re.compile(r"^ *(?:(?:unfoldable|abbrev) pub|pub (?:record|data)) ([A-Z]\w
 TYPED = re.compile(r"[({]([^(){}:=]+) : ")
 BOUND = re.compile(r"λ ([^.]*)\.|\blet (\S+) ")
 NAME = re.compile(r"[^\s(){},]+")
-CLAUSE = re.compile(r"^ *\S+ ([^=:]*)=(?: |$)", re.M)
+CLAUSE = re.compile(r"^ *\S+ ([^=:\n]*)=(?: |$)", re.M)
 
 
 def renamed(text):
@@ -149,7 +123,6 @@ def renamed(text):
 # What a capital letter begins is a relation or a type, and stands for one thing in all definitions.
 homes = {}
 for path in sorted(glob.glob("crates/**/*.antt", recursive=True)):
-    hold(not wide_comments(read(path), "--"), f"{path} has comments of 120 columns: {wide_comments(read(path), '--')}")
     text = re.sub(r"--.*", "", read(path))
     hold(text.count("\n") <= 400, f"{path} has at most 400 lines")
     hold(not re.search(r"(?<![\w·-])\?", text), f"{path} has no hole")
@@ -160,10 +133,45 @@ for path in sorted(glob.glob("crates/**/*.antt", recursive=True)):
         for name in TOP.findall(text):
             hold(homes.setdefault(name, path) == path, f"{name} stands for one thing: {homes[name]}, {path}")
 
-edits = "".join(read(path) for path in glob.glob("crates/*/must-fail/*.edit"))
-labels = re.findall(r"^label: (.*)$", edits, re.M)
-for label in sorted(set(labels) | set(re.findall(r"\(`([a-z0-9_]+)`\)", promises))):
-    hold(f"(`{label}`)" in promises and labels.count(label) == 1, f"wrong answer {label} and docs/PROMISES.md")
 
-print(f"{passed} passed, {failed} failed")
-sys.exit(1 if failed or not passed else 0)
+def wide_lines(path, text):
+    """The lines wider than 120 columns, or than 160 in a contract.
+
+    In crates.txt, where the kit asks for a crate in one line, the comments alone are held to it.
+    """
+    comment = "#" if path == "crates.txt" else ""
+    contract, wide = False, []
+    for number, line in enumerate(text.splitlines(), 1):
+        if path.endswith(".rt"):
+            contract = bool(re.match(r" *(requires|ensures)\b", line)) or contract and line.strip() != "{"
+        if len(line) > (160 if contract else 120) and line.strip().startswith(comment):
+            wide.append(number)
+    return wide
+
+
+def is_script(path):
+    with open(path, "rb") as f:
+        return f.read(9) == b"#!/bin/sh"
+
+
+for path in subprocess.run(["git", "ls-files"], capture_output=True, text=True, check=True).stdout.split():
+    if re.search(r"\.(md|c|h|rs|toml|py|rt|antt)$|^crates\.txt$", path) or is_script(path):
+        wide = wide_lines(path, read(path))
+        hold(not wide, f"{path} has at most 120 columns, and 160 in a contract: lines {wide}")
+
+labels = []
+for crate in crates:
+    answers = functions.wrong_answers(crate)
+    public = functions.public(crate)
+    for one in public:
+        place = f"{crate}::{one['name']}"
+        hold(len(answers.get(one["name"], [])) >= 2, f"{place} has two wrong answers")
+        hold(one["promise"], f"{place} has a comment")
+    for name, found in answers.items():
+        for answer in found:
+            labels.append(answer["label"])
+            hold(answer["wrong"], f"{crate}: {answer['label']} says what is wrong")
+            hold(name is None or name in [one["name"] for one in public], f"{crate}: {answer['label']} tries {name}")
+for label in sorted(set(labels)):
+    hold(labels.count(label) == 1, f"wrong answer {label} is one")
+end()

@@ -12,43 +12,12 @@ import os
 import re
 import sys
 
-os.chdir(os.path.join(os.path.dirname(os.path.abspath(__file__)), ".."))
-passed = failed = 0
+sys.dont_write_bytecode = True
+sys.path.insert(0, os.path.join(os.path.dirname(os.path.abspath(__file__)), "support"))
+from tally import end, hold, read
+from edits import answers
+
 FUNCTION = re.compile(r"^(?:pub )?(?:extern \"C\" )?fn (\w+).*?^\}$", re.M | re.S)
-
-
-def hold(ok, what):
-    global passed, failed
-    if ok:
-        passed += 1
-    else:
-        failed += 1
-        print("FAILED", what)
-
-
-def read(path):
-    with open(path, encoding="utf8") as f:
-        return f.read()
-
-
-def answers(path):
-    """The wrong answers of a file: label, place of the refusal, fact, and the replacements."""
-    found, file, old = [], None, None
-    for line in read(path).splitlines():
-        word, _, rest = line.partition(": ")
-        if word == "label":
-            found.append({"label": rest, "at": "", "fact": "", "edits": []})
-        elif word == "refused":
-            found[-1]["at"], _, found[-1]["fact"] = rest.partition(" ")
-        elif word == "file":
-            file = rest
-        elif word == "old":
-            old = rest
-        elif word == "new" or line == "new:":
-            if not found:
-                found.append({"label": "", "at": "", "fact": "", "edits": []})
-            found[-1]["edits"].append((file, old))
-    return found
 
 
 def functions_at(crate, edits):
@@ -62,7 +31,7 @@ def functions_at(crate, edits):
 
 
 def proof_of(crate, function):
-    """The folder with the proof of a function: functions that call each other have one proof, and name the facts of each."""
+    """The folder with the proof of a function: functions that call each other have one, with the facts of each."""
     cycles = [os.path.basename(p) for p in glob.glob(f"crates/{crate}/proofs/+*")]
     return next((c for c in cycles if function in c.split("+")), function)
 
@@ -75,7 +44,8 @@ def is_refused(log, crate, at, fact):
     place = at if at.endswith(".antt") else f"proofs/{proof}/Proof.antt"
     errors = re.findall(r"^\S*/%s:\d+:\d+: error: `%s`: (.*)" % (re.escape(place), re.escape(fact)), log, re.M)
     searched = re.findall(r"^fn %s::%s: no proof: .*does not close ([^;]*)" % (crate, re.escape(at)), log, re.M)
-    return any("was not admitted" not in e and "has no `Need" not in e for e in errors) or any(f"`{fact}`" in s for s in searched)
+    own = [e for e in errors if "was not admitted" not in e and "has no `Need" not in e]
+    return bool(own) or any(f"`{fact}`" in s for s in searched)
 
 
 for path in sorted(glob.glob("crates/*/must-fail/*.edit")):
@@ -94,8 +64,8 @@ for path in sorted(glob.glob("crates/*/must-fail/*.edit")):
         else:
             hold(inside == {answer["at"]}, f"{place}: it stands in {inside}")
         functions.append(answer["at"])
-        hold(is_refused(log, crate, answer["at"], answer["fact"]), f"{place}: refused at {answer['at']} {answer['fact']}")
+        at, fact = answer["at"], answer["fact"]
+        hold(is_refused(log, crate, at, fact), f"{place}: refused at {at} {fact}")
     hold(len(functions) == len(set(functions)), f"{path}: two wrong answers for one function")
 
-print(f"{passed} passed, {failed} failed")
-sys.exit(1 if failed or not passed else 0)
+end()
