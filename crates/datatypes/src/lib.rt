@@ -11,11 +11,11 @@ enum Step {
     End,
 }
 
-// Yes exactly for the whitespace characters #x20, #x9 and #xA.
+// Yes exactly for the whitespace characters #x20, #x9, #xA and #xD.
 pub fn is_space(c: u8) -> bool
     ensures { λ r. ⌜ r ≡ space c ⌝ }
 {
-    c == 0x20 || c == 0x9 || c == 0xA
+    c == 0x20 || c == 0x9 || c == 0xA || c == 0xD
 }
 
 // The first position from a given one on where no whitespace character stands, or the end of the text; the given one
