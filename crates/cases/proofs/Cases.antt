@@ -1,4 +1,4 @@
--- Cases P1 to P12 of FORMAT, "Cases", hold of the definitions.
+-- The cases of FORMAT, "Cases", hold of the definitions.
 use mathlib.Core.Path.{_≡_, refl}
 use mathlib.Core.Bool.{true}
 use Rattle.datatypes.specs.Whitespace.{space}
@@ -37,6 +37,5 @@ unfolding space upto shapeOf usesBefore patternBy classBy class.holds rowsWhere 
     passTest refusedTest upTest parentTest nodesTest widthTest reachTest plusTest spanTest pairTest validTest check
 checked = refl
 
--- P1 to P12
 pub all-hold : AllHold table
 all-hold = all-checked table checked

@@ -1,4 +1,4 @@
--- Cases P1 to P12 of FORMAT, "Cases", either side: the tables of each job, and what is said of it.
+-- The cases of FORMAT, "Cases", either side: the tables of each job, and what is said of it.
 use Prim.Native.Nat.{ℕ}
 use mathlib.Core.Bool.{true, false}
 use mathlib.Core.List.{List, [], _∷_}
@@ -275,7 +275,30 @@ p12 = record {
   expected = refused 6 2;
 }
 
+-- P13: an element e, whose pattern is empty
+abbrev pub emptyContent : List ℕ
+emptyContent = schemaWords ((18, 0, 1) ∷ (1, 0, 0) ∷ (20, 0, 1) ∷ (8, 2, 0) ∷ (21, 3, 0) ∷ [])
+
+-- the content is one #xD, and is one #xC
+abbrev pub p13-return : Row
+p13-return = record {
+  bytes = 0x65 ∷ 0xD ∷ [];
+  ends = 0 ∷ 1 ∷ 2 ∷ [];
+  schema = emptyContent;
+  instance = nodeWords ((1, noRow, 0, 1, 0) ∷ (3, 0, 2, 0, 0) ∷ []);
+  expected = matches ((0, 2) ∷ []) true;
+}
+
+abbrev pub p13-feed : Row
+p13-feed = record {
+  bytes = 0x65 ∷ 0xC ∷ [];
+  ends = 0 ∷ 1 ∷ 2 ∷ [];
+  schema = emptyContent;
+  instance = nodeWords ((1, noRow, 0, 1, 0) ∷ (3, 0, 2, 0, 0) ∷ []);
+  expected = matches [] false;
+}
+
 abbrev pub table : List Row
 table =
     p1 ∷ p2 ∷ p3-token ∷ p3-string ∷ p4-empty ∷ p4-x ∷ p5-token ∷ p5-string ∷ p6-ab ∷ p6-ba ∷ p6-aab ∷ p7-none ∷ p7-one
-    ∷ p7-two ∷ p8-no ∷ p8-yes ∷ p9-except ∷ p9-any ∷ p10 ∷ p11 ∷ p12 ∷ []
+    ∷ p7-two ∷ p8-no ∷ p8-yes ∷ p9-except ∷ p9-any ∷ p10 ∷ p11 ∷ p12 ∷ p13-return ∷ p13-feed ∷ []

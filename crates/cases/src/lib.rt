@@ -1,2 +1,2 @@
-// Cases P1 to P12 of FORMAT, "Cases", held to the definitions. There is no function here: the table is in specs/, the
+// The cases of FORMAT, "Cases", held to the definitions. There is no function here: the table is in specs/, the
 // theorem in proofs/.
