@@ -55,7 +55,7 @@ fn compare(y: &mut Tally, what: &str, file: &[u8], expected: String) {
 // Jobs of the repository.
 
 /// The cases of FORMAT, "Cases", that a job can show, each by the beginning of its names. P9 is about classes alone.
-const CASES: [&str; 19] = [
+const CASES: [&str; 20] = [
     "p1.",
     "p2_",
     "p3_",
@@ -67,6 +67,7 @@ const CASES: [&str; 19] = [
     "p10_",
     "p11_",
     "p12_",
+    "p13_",
     "children_63_",
     "children_64_",
     "schema_rows_512_",

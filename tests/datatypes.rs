@@ -165,18 +165,20 @@ fn compare(y: &mut Tally, name: &str, texts: &[Text]) -> [Answers; 2] {
 
 /// Two texts, and whether they are equal as tokens; no two are equal as strings.
 #[rustfmt::skip]
-const CASES: [(&[u8], &[u8], bool); 28] = [
+const CASES: [(&[u8], &[u8], bool); 34] = [
     (b"a b", b"  a   b ", true), (b" ", b"", true), (b" \t\n", b"\n", true), (b"a", b"\na", true),
     (b"a\tb", b"a\nb", true), (b"\ta\n", b"a", true), (b"a\t\n b", b"a b", true),
     (b"\r", b" \r\n", true), (b"a", b"a   ", true), (b"a ", b"a\t\n", true),
+    (b"a\rb", b"a b", true), (b"a\r", b"a", true), (b"\ra", b"a", true), (b"\r", b"", true),
     (b"a b  c", b"a  b c", true), (b"a", b"b", false), (b"a", b"", false), (b"a", b"A", false),
-    (b"a\rb", b"a b", false), (b"a\r", b"a", false), (b"\ra", b"a", false), (b"\r", b"", false),
+    (b"a\x0Bb", b"a b", false), (b"a\x0B", b"a", false), (b"\x0C", b"", false), (b"\x0Ca", b"a", false),
+    (b"a\rb", b"ab", false), (b"a\xA0", b"a", false),
     (b"ab", b"a b", false), (b"a", b"a a", false), (b"a ", b"a b", false), (b"aa", b"a", false),
     (b"a b", b"a c", false), (b"a bc", b"ab c", false), (b"a b", b"b a", false),
     (b"a\0b", b"a\0c", false), (b"\0", b"", false), (b"\xE9", b"i", false),
 ];
-const WHITE: [&[u8]; 5] = [b"", b" ", b"\t", b"\n", b" \t\n "];
-const NOT_WHITE: [&[u8]; 8] = [b"\r", b"\r\n", b"  \r", b"a", b" a", b"a ", b" a ", b"\0"];
+const WHITE: [&[u8]; 8] = [b"", b" ", b"\t", b"\n", b"\r", b"\r\n", b"  \r", b" \t\n "];
+const NOT_WHITE: [&[u8]; 9] = [b"\x0B", b"\x0C", b"\r\x0C", b"a", b" a", b"a ", b" a ", b"\0", b"\xC2\xA0"];
 
 fn named_texts(y: &mut Tally) {
     let pairs = CASES.iter().flat_map(|(a, b, _)| [*a, *b]);
@@ -209,7 +211,7 @@ fn each_byte(y: &mut Tally) {
             [b"a b".to_vec(), b"a".to_vec()].into_iter().chain(some.iter().flat_map(around)).collect();
         for answers in compare(y, "each byte", &texts) {
             for (k, c) in some.iter().enumerate() {
-                let white = [9, 10, 32].contains(c);
+                let white = [9, 10, 13, 32].contains(c);
                 let equal = |d, a, b| answers.equal.contains(&(d, a, 2 + 3 * k + b));
                 y.same(format_args!("byte {c} is whitespace"), answers.white.contains(&(2 + 3 * k)), white);
                 let tokens = [equal(datatype::TOKEN, 0, 1), equal(datatype::TOKEN, 1, 2)];
@@ -225,7 +227,7 @@ fn each_byte(y: &mut Tally) {
 fn short_texts(y: &mut Tally) {
     let mut all: Vec<Text> = vec![vec![]];
     for k in 0..85 {
-        all.extend([b'a', b' ', b'\t', b'\r'].map(|c| [&all[k][..], &[c]].concat()));
+        all.extend([b'a', b' ', b'\r', b'\x0C'].map(|c| [&all[k][..], &[c]].concat()));
     }
     compare(y, "all short texts", &all);
 }
@@ -238,19 +240,19 @@ fn bytes(r: &Rng, length: usize, from: &[u8]) -> Text {
 
 /// Lays out words with runs of whitespace between them, and perhaps before and after.
 fn lay_out(r: &Rng, words: &[Text], run: usize) -> Text {
-    let gap = |least: usize| bytes(r, least + r.below(run), b" \t\n");
+    let gap = |least: usize| bytes(r, least + r.below(run), b" \t\n\r");
     let pieces = words.iter().flat_map(|word| [gap(1), word.clone()]);
     let middle: Vec<Text> = pieces.skip(1).collect();
     [gap(0), middle.concat(), gap(0)].concat()
 }
 
 fn make_words(r: &Rng, count: usize, most: usize) -> Vec<Text> {
-    (0..count).map(|_| bytes(r, 1 + r.below(most), b"aab\r")).collect()
+    (0..count).map(|_| bytes(r, 1 + r.below(most), b"aab\x0C")).collect()
 }
 
 /// Texts of the same words, one of them with one byte more, and two of any bytes.
 fn some_texts(r: &Rng) -> [Text; 6] {
-    let letters = b"ab \t\n\r";
+    let letters = b"ab \t\n\r\x0B";
     let words = make_words(r, r.below(4), 2);
     let [a, b, c] = [1, 2, 3].map(|run| lay_out(r, &words, run));
     let mut d = b.clone();
@@ -271,10 +273,10 @@ fn random_texts(y: &mut Tally, r: &Rng) {
 
 /// Long texts that differ only at the end, and whether they are equal as tokens.
 #[rustfmt::skip]
-const TAILS: [(&[u8], &[u8], bool); 9] = [
+const TAILS: [(&[u8], &[u8], bool); 10] = [
     (b"", b"", true), (b"", b" \t\n ", true), (b" a", b"\t\n a ", true), (b"a", b"b", false),
-    (b"", b"a", false), (b"a", b"a\r", false), (b" a", b"a", false), (b" a", b" a a", false),
-    (b" a b", b" a ab", false),
+    (b"", b"a", false), (b"a", b"a\x0B", false), (b" a", b"a", false), (b" a", b" a a", false),
+    (b" a b", b" a ab", false), (b"a", b"a\r", true),
 ];
 
 fn long_texts(y: &mut Tally, r: &Rng) {
@@ -288,10 +290,10 @@ fn long_texts(y: &mut Tally, r: &Rng) {
                 y.same(format_args!("long texts, {p:?} and {q:?} last"), equal, [token; 2]);
             }
         }
-        let blank = bytes(r, 1_000 + 300 * round, b" \t\n");
-        let texts = [blank.clone(), [&blank[..], b"\r"].concat(), vec![]];
+        let blank = bytes(r, 1_000 + 300 * round, b" \t\n\r");
+        let texts = [blank.clone(), [&blank[..], b"\x0C"].concat(), vec![]];
         for answers in compare(y, "long whitespace", &texts) {
-            y.same("long whitespace, and CR last", answers.white, BTreeSet::from([0, 2]));
+            y.same("long whitespace, and #xC last", answers.white, BTreeSet::from([0, 2]));
         }
     }
 }

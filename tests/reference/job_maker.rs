@@ -8,12 +8,15 @@ use super::reference::matching::{is_white, Tables};
 use super::reference::{fault, NONE};
 use std::cell::{Cell, RefCell};
 
-/// What strings are made from: whitespace and words that only `token` finds equal.
-const TEXTS: [&str; 15] =
-    [" ", "a", " a", "a b", "  a \t b ", "\t\n", "no", " no ", "x", "\r", "a\rb", "\n", "b", "a a\n", "x\tno x"];
+/// What strings are made from: whitespace, words that only `token` finds equal, and the controls beside whitespace.
+#[rustfmt::skip]
+const TEXTS: [&str; 18] = [
+    " ", "a", " a", "a b", "  a \t b ", "\t\n", "no", " no ", "x", "\r", "a\rb", "\n", "b", "a a\n", "x\tno x",
+    "\rno\r\n", "\x0C", "a\x0Bb",
+];
 /// What stands between two tokens, and what may stand around them.
-const BETWEEN: [&str; 6] = [" ", " ", "\n", "\t", "  ", " \n\t "];
-const AROUND: [&str; 6] = ["", "", "", " ", "\n", "\t  "];
+const BETWEEN: [&str; 7] = [" ", " ", "\n", "\t", "\r", "  ", " \r\n\t "];
+const AROUND: [&str; 7] = ["", "", "", " ", "\n", "\r", "\t  "];
 
 /// A part of an element's content, in document order.
 #[derive(Clone, Copy)]
@@ -304,7 +307,7 @@ fn tokens(r: &Rng, depth: usize) -> String {
 }
 
 /// Strings for lists: three names, values of one token and others.
-const VALUES: [&str; 8] = ["a", "b", "c", " a ", "b\t", "a b", " ", "a\rb"];
+const VALUES: [&str; 8] = ["a", "b", "c", " a ", "b\r", "a b", " ", "a\x0Cb"];
 
 /// A schema of lists: three definitions, of one name but for some, and a root that holds any of them.
 fn lists(r: &Rng) -> Job {
@@ -341,7 +344,7 @@ fn lists(r: &Rng) -> Job {
 /// A root with children whose texts and attributes hold some tokens.
 fn token_texts(r: &Rng, strings: &mut Vec<Vec<u8>>) -> Vec<u32> {
     let mut string = || {
-        let tokens: Vec<&[u8]> = (0..r.below(6)).map(|_| r.pick(&["a", "b", "c", "d", "a\rb"]).as_bytes()).collect();
+        let tokens: Vec<&[u8]> = (0..r.below(6)).map(|_| r.pick(&["a", "b", "c", "d", "a\x0Cb"]).as_bytes()).collect();
         numbered(strings, spaced(r, &tokens)).unwrap_or(0)
     };
     let mut words = vec![1, NONE, 0, 1, 0];

@@ -76,8 +76,9 @@ impl Tables {
     }
 }
 
+/// Whether a byte is a whitespace character of the standard, 3.9.
 pub fn is_white(byte: &u8) -> bool {
-    matches!(byte, b' ' | b'\t' | b'\n')
+    matches!(byte, b' ' | b'\t' | b'\n' | b'\r')
 }
 
 /// The tokens of a text, which whitespace separates.
