@@ -1,9 +1,13 @@
+pub mod ClassRows
 pub mod Grid
 pub mod Holds
+pub mod Judging
 pub mod Lists
 pub mod Marks
 pub mod Mentions
 pub mod Rules
 pub mod SmallModel
 pub mod SmallNames
+pub mod Smallest
 pub mod Trying
+pub mod WhichRow

@@ -2,17 +2,17 @@
 -- marked, and each child of a marked row is.
 use Prim.Native.Nat.{ℕ, zero, suc, _≤_, _<_}
 use mathlib.Core.Path.{_≡_, refl, sym, _∙_, ap, ap₂}
-use mathlib.Core.Bool.{Bool, true, false, not, _&&_, _||_, true≢false}
+use mathlib.Core.Bool.{Bool, true, false, not, _&&_, _||_}
 use mathlib.Core.List.{List}
 use native.Mathlib.Decide.{decLt, ℕ-discrete}
 use native.Mathlib.Omega.{arith}
-use lib.Dec.{ltb, eqb}
+use lib.Dec.{eqb}
 use lib.ListN.{length}
 use borrow.Author.Tests.{lt-ltb}
 use Rattle.schema.specs.Falling.{upto}
 use Rattle.schema.specs.Kinds as kind
-use Rattle.schema.specs.Relations.{Child, by-a, by-b}
-use Rattle.schema.specs.Rows.{kindOf, aOf, bOf, shapeOf, sortOf, isClass, names}
+use Rattle.schema.specs.Relations.{Child}
+use Rattle.schema.specs.Rows.{kindOf, aOf, bOf, shapeOf, sortOf, isClass}
 use Rattle.schema.proofs.Falling.{upto-below, upto-above}
 use Rattle.schema.specs.Marks.{Marked}
 use Rattle.schema.proofs.Marks.{marked-row}
@@ -21,33 +21,13 @@ use Rattle.schema_classes.specs.Search.{mentionOf}
 use Rattle.schema_classes.specs.declared.Mention.the-variants.{Of}
 use Rattle.schema_classes.specs.declared.NamePart.{NamePart}
 use Rattle.schema_classes.specs.declared.NamePart.the-variants.{Namespace, Local}
+use Rattle.schema_classes.proofs.ClassRows.{no-class, child-a, child-b}
 use Rattle.schema_classes.proofs.Holds.{step, Read, holds-anyName, holds-nsName}
 use Rattle.schema_classes.proofs.Holds.{holds-name, holds-nameChoice, holds-other}
-
--- a row of another sort is no class, and holds nothing
-class-kind : (k j : ℕ) → isClass (shapeOf j .sort) ≡ true → isClass (shapeOf k .sort) ≡ false → k ≡ j → ⊥
-class-kind k j y n e = true≢false (sym y ∙ ap (λ (i : ℕ). isClass (shapeOf i .sort)) (sym e) ∙ n)
-
-no-class : (s : List ℕ) (u l r : ℕ) → isClass (sortOf s r) ≡ false → holds s u l r ≡ false
-unfolding shapeOf
-no-class s u l r n =
-    holds-other s u l r (record { kind = refl; first = refl; second = refl })
-    (class-kind (kindOf s r) kind.anyName refl n) (class-kind (kindOf s r) kind.nsName refl n)
-    (class-kind (kindOf s r) kind.name refl n) (class-kind (kindOf s r) kind.nameChoice refl n)
 
 -- the two numbers are alike to every marked row that mentions such a part
 abbrev pub Alike : List ℕ → List ℕ → NamePart → ℕ → ℕ → Type 0
 Alike s m part v w = (r x : ℕ) → Marked m r → mentionOf s r part ≡ Of x → eqb v x ≡ eqb w x
-
--- a smaller row that is a class, in a field that can name one, is a child
-module _ (s : List ℕ) (c k : ℕ) where
-  child-a : ((x : ℕ) → names s c (shapeOf k .a) x ≡ (ltb x c && isClass (sortOf s x)))
-      → kindOf s c ≡ k → aOf s c < c → isClass (sortOf s (aOf s c)) ≡ true → Child s (aOf s c) c
-  child-a f e l h = by-a (rw e (f (aOf s c) ∙ rw (lt-ltb (aOf s c) c l, h))) refl
-
-  child-b : ((x : ℕ) → names s c (shapeOf k .b) x ≡ (ltb x c && isClass (sortOf s x)))
-      → kindOf s c ≡ k → bOf s c < c → isClass (sortOf s (bOf s c)) ≡ true → Child s (bOf s c) c
-  child-b f e l h = by-b (rw e (f (bOf s c) ∙ rw (lt-ltb (bOf s c) c l, h))) refl
 
 module _ (s m : List ℕ) (u l u′ l′ : ℕ) where
   -- a field of row c, by what the classes at smaller rows hold

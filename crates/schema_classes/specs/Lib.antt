@@ -1,3 +1,5 @@
+pub mod Judging
 pub mod Least
 pub mod Membership
 pub mod Search
+pub mod WhichRow

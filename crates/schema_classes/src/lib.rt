@@ -3,15 +3,23 @@ ghost use mathlib.Core.Path.{_≡_};
 ghost use Prim.Native.Nat.{_+_, _≤_, _<_};
 ghost use lib.ListN.{length};
 ghost use Rattle.tables.specs.Answers.{Decides};
-ghost use Rattle.schema.specs.Falling.{upto};
 ghost use Rattle.schema.specs.RowRule.{maxRows};
-ghost use Rattle.schema.specs.Rows.{rowsOf};
-ghost use Rattle.schema.specs.Views.{classOf};
-ghost use Rattle.schema_classes.specs.Membership.{memberBy, holds, inClass};
+ghost use Rattle.schema.specs.Kinds as kind;
+ghost use Rattle.schema.specs.Rows.{rowsOf, kindOf};
+ghost use Rattle.schema_classes.specs.Membership.{inClass};
+ghost use Rattle.schema_classes.specs.WhichRow.{Judged};
+ghost use Rattle.schema_classes.specs.Judging.{smallerOf, unlessExcepted, choiceOf, JudgedBelow};
 ghost use Rattle.schema_classes.specs.Least.{LeastCommon};
 ghost use Rattle.schema_classes.specs.Search.{markedRows, Closure, mentionOf, leastOf, Among};
 ghost use Rattle.schema_classes.specs.Search.{MentionAdded, Mentioned, Fresh, Candidates};
 ghost use Rattle.schema_classes.specs.Search.{Earlier, TriedName, TriedLocals, TriedAll};
+
+// Whether a name is in a class, and the row that says so: for yes the smallest that takes the name in, for no the
+// smallest except class that shuts it out, or NO_ROW where none does.
+pub enum Member {
+    Yes(u32),
+    No(u32),
+}
 
 // A name, or none.
 pub enum Found {
@@ -37,54 +45,114 @@ const MARKED_ROWS: u32 = schema::MAX_ROWS as u32 + 1;
 // Numbers to try: one for each of these rows, and one that none of them mentions.
 const MAX_CANDIDATES: usize = MARKED_ROWS as usize + 1;
 
-// Whether the class at a row holds a name. A row that is no class holds none.
-fn class_holds(schema: &[u32], row: u32, namespace: u32, local: u32) -> bool
-    ensures { λ r. ⌜ r ≡ holds (now (schema .entry)) namespace local row ⌝ }
+fn smaller_of(first: u32, second: u32) -> u32
+    ensures { λ r. ⌜ r ≡ smallerOf first second ⌝ }
 {
-    let kind = schema::kind(schema, row);
+    if second < first { second } else { first }
+}
+
+// What an anyName, or an nsName of the name's namespace, at a row says, by what its except says. A name that the except
+// holds is shut out by the except class, not by a row inside it.
+fn unless_excepted(row: u32, except: u32, held: Member) -> Member
+    ensures { λ r. ⌜ r ≡ unlessExcepted row except held ⌝ }
+{
+    match held {
+        Member::Yes(_inside) => Member::No(except),
+        Member::No(_) => Member::Yes(row),
+    }
+}
+
+// What a choice says, by what its members say.
+fn choice_of(first: Member, second: Member) -> Member
+    ensures { λ r. ⌜ r ≡ choiceOf first second ⌝ }
+{
+    match first {
+        Member::Yes(p) => match second {
+            Member::Yes(q) => Member::Yes(smaller_of(p, q)),
+            Member::No(_) => Member::Yes(p),
+        },
+        Member::No(p) => match second {
+            Member::Yes(q) => Member::Yes(q),
+            Member::No(q) => Member::No(smaller_of(p, q)),
+        },
+    }
+}
+
+// What a single name at a row says of a name.
+fn name_holds(schema: &[u32], row: u32, namespace: u32, local: u32) -> Member
+    requires { ⌜ (0 < local) × (kindOf (now schema) row ≡ kind.name) ⌝ }
+    ensures { λ r. ⌜ Judged (now (schema .entry)) namespace local row r ⌝ }
+{
+    if schema::field_a(schema, row) == namespace {
+        if schema::field_b(schema, row) == local {
+            return Member::Yes(row);
+        }
+    }
+    Member::No(schema::NO_ROW)
+}
+
+// What the class at a row, which is no single name, says of a name. A row that is no class holds none.
+fn class_holds(schema: &[u32], row: u32, namespace: u32, local: u32) -> Member
+    requires { ⌜ (0 < local) × (¬ (kindOf (now schema) row ≡ kind.name)) ⌝ }
+    ensures { λ r. ⌜ Judged (now (schema .entry)) namespace local row r ⌝ }
+{
     let a = schema::field_a(schema, row);
     let b = schema::field_b(schema, row);
-    match kind {
-        schema::ANY_NAME => !smaller_holds(schema, row, a, namespace, local),
+    match schema::kind(schema, row) {
+        schema::ANY_NAME => {
+            unless_excepted(row, a, smaller_holds(schema, row, a, namespace, local))
+        }
         schema::NS_NAME => {
             if namespace == a {
-                !smaller_holds(schema, row, b, namespace, local)
+                unless_excepted(row, b, smaller_holds(schema, row, b, namespace, local))
             } else {
-                false
+                Member::No(schema::NO_ROW)
             }
         }
-        schema::NAME => { if namespace == a { local == b } else { false } }
-        schema::NAME_CHOICE => {
-            if smaller_holds(schema, row, a, namespace, local) {
-                true
-            } else {
-                smaller_holds(schema, row, b, namespace, local)
-            }
-        }
-        _ => false,
+        schema::NAME_CHOICE => choice_of(
+            smaller_holds(schema, row, a, namespace, local),
+            smaller_holds(schema, row, b, namespace, local),
+        ),
+        _ => Member::No(schema::NO_ROW),
     }
 }
 
-// Whether the class at a smaller row than its parent, an except or a member of a choice, holds a name.
-// A field that is no smaller row, as NO_ROW, holds none.
-fn smaller_holds(schema: &[u32], parent: u32, row: u32, namespace: u32, local: u32) -> bool
-    ensures { λ r. ⌜ r ≡ upto (λ row below. memberBy below namespace local (classOf (now (schema .entry)) row)) parent row ⌝ }
+// What the class at a smaller row than its parent, an except or a member of a choice, says of a name. A field that is
+// no smaller row, as NO_ROW, holds none. Most classes are single names: these are judged here, without a call for each.
+fn smaller_holds(schema: &[u32], parent: u32, row: u32, namespace: u32, local: u32) -> Member
+    requires { ⌜ 0 < local ⌝ }
+    ensures { λ r. ⌜ JudgedBelow (now (schema .entry)) namespace local parent row r ⌝ }
 {
-    if row < parent {
-        class_holds(schema, row, namespace, local)
-    } else {
-        false
+    if row >= parent {
+        return Member::No(schema::NO_ROW);
     }
+    if schema::kind(schema, row) == schema::NAME {
+        return name_holds(schema, row, namespace, local);
+    }
+    class_holds(schema, row, namespace, local)
 }
 
-// Yes exactly when the class at a row holds a name; no class holds a name whose local is 0.
+// Whether the class at a row holds a name, and which row says so. No class holds a name whose local is 0.
+pub fn membership(schema: &[u32], row: u32, namespace: u32, local: u32) -> Member
+    ensures { λ r. ⌜ Judged (now (schema .entry)) namespace local row r ⌝ }
+{
+    if local == 0 {
+        return Member::No(schema::NO_ROW);
+    }
+    if schema::kind(schema, row) == schema::NAME {
+        return name_holds(schema, row, namespace, local);
+    }
+    class_holds(schema, row, namespace, local)
+}
+
+// Yes exactly when the class at a row holds a name: membership without its row.
 pub fn in_class(schema: &[u32], row: u32, namespace: u32, local: u32) -> bool
     ensures { λ r. ⌜ r ≡ inClass (now (schema .entry)) namespace local row ⌝ }
 {
-    if local == 0 {
-        return false;
+    match membership(schema, row, namespace, local) {
+        Member::Yes(_) => true,
+        Member::No(_) => false,
     }
-    class_holds(schema, row, namespace, local)
 }
 
 // Marks every row below a marked one.
