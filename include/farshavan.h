@@ -28,7 +28,7 @@
 extern "C" {
 #endif
 
-/* The word for no except in a schema row and for no parent in an instance row; `-` in a job file. */
+/* The word for no except in a schema row, no parent in an instance row, no row in an answer; `-` in a job file. */
 #define FARSHAVAN_NONE 4294967295u
 
 /* The words of a schema row (kind, a, b) and of an instance row (kind, parent, a, b, c). */
@@ -108,12 +108,17 @@ uint64_t farshavan_schema_verdict(const uint8_t *bytes, size_t bytes_length, con
                                   const uint32_t *schema, size_t schema_length);
 
 /*
- * Name in class: whether the name class at a row of the schema holds a name.
- * Answers 1 or 0. Codes 1 to 8, and 11 at the row where it is no name class.
+ * Name in class: whether the name class at a row of the schema holds a name, and which row says so. Only excepts within
+ * this class count.
+ * Answers 1 or 0 with a row in `row`, one word. For 1 it is the smallest row of an anyName, an nsName or a name that
+ * lies in the class below no except and, taken with its own except, holds the name. For 0 it is the smallest except
+ * class that holds the name, under an anyName or an nsName of the name's namespace that lies in the class below no
+ * except; FARSHAVAN_NONE where there is none.
+ * Codes 1 to 8, 11 at the row of the question where it is no name class, and 12 where `row` has no word.
  */
 uint64_t farshavan_name_in_class(const uint8_t *bytes, size_t bytes_length, const uint32_t *ends, size_t ends_length,
                                  const uint32_t *schema, size_t schema_length, uint32_t name_class,
-                                 uint32_t name_space, uint32_t local);
+                                 uint32_t name_space, uint32_t local, uint32_t *row, size_t row_length);
 
 /*
  * Least common name of the name classes at two rows, by namespace and then by local name.

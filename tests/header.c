@@ -72,15 +72,18 @@ static const char *name_of(uint32_t element)
 
 static void check_answers(void)
 {
-    uint32_t name[3] = {7, 7, 7};
+    uint32_t row[3] = {7, 7, 7}, name[3] = {7, 7, 7};
     uint64_t returned;
     hold(farshavan_schema_verdict(SCHEMA) == 0, "the schema passes");
     hold(farshavan_verdict(TABLES, work, sizeof work) == 1, "the instance is valid");
     hold(strcmp(name_of(list[0]), "art") == 0, "the first pair is of an art");
     hold(strcmp(name_of(list[2]), "ti") == 0, "the second pair is of a ti");
     hold(strcmp(name_of(list[4]), "ti") == 0, "the third pair is of the same");
-    hold(farshavan_name_in_class(SCHEMA, 0, 0, 1) == 1, "art is in the class at row 0");
-    hold(farshavan_name_in_class(SCHEMA, 0, 0, 2) == 0, "id is not");
+    hold(farshavan_name_in_class(SCHEMA, 0, 0, 1, row, 3) == 1, "art is in the class at row 0");
+    hold(row[0] == 0 && row[1] == 0 && row[2] == 0, "that row says so");
+    hold(farshavan_name_in_class(SCHEMA, 0, 0, 2, row, 3) == 0, "id is not");
+    hold(row[0] == FARSHAVAN_NONE && row[1] == 0 && row[2] == 0, "no except shuts it out");
+    hold(farshavan_name_in_class(SCHEMA, 10, 0, 3, row, 1) == 1 && row[0] == 10, "ti is in the class at row 10");
     hold(farshavan_least_common_name(SCHEMA, 7, 10, name, 3) == 1, "the two classes of ti have a name in common");
     hold(name[0] == 0 && name[1] == 3 && name[2] == 0, "that name is ti");
     hold(farshavan_least_common_name(SCHEMA, 0, 7, name, 3) == 0, "art and ti have none");
@@ -95,8 +98,10 @@ static int refused(uint64_t returned, uint32_t code, uint32_t place)
 
 static void check_refusals(void)
 {
-    uint64_t returned = farshavan_name_in_class(SCHEMA, 2, 0, 1);
+    uint32_t row[2] = {7, 7};
+    uint64_t returned = farshavan_name_in_class(SCHEMA, 2, 0, 1, row, 2);
     hold(refused(returned, FARSHAVAN_CODE_NOT_A_CLASS, 2), "row 2 is no class");
+    hold(row[0] == 0 && row[1] == 0, "and no row says so");
     returned = farshavan_match_list(TABLES, list, 5, work, sizeof work);
     hold(refused(returned, FARSHAVAN_CODE_OUTPUT, 0), "three pairs need six words");
     hold(list[0] == 0 && list[1] == 0 && list[2] == 0 && list[3] == 0 && list[4] == 0, "a refusal leaves zeros");
@@ -114,7 +119,8 @@ static void check_nothing(void)
 {
     const uint32_t strings = FARSHAVAN_CODE_STRINGS, output = FARSHAVAN_CODE_OUTPUT, job_file = FARSHAVAN_CODE_JOB_FILE;
     hold(refused(farshavan_schema_verdict(NOTHING, NOTHING, NOTHING), strings, 0), "schema verdict on nothing");
-    hold(refused(farshavan_name_in_class(NOTHING, NOTHING, NOTHING, 0, 0, 1), strings, 0), "name in no class");
+    hold(refused(farshavan_name_in_class(NOTHING, NOTHING, NOTHING, 0, 0, 1, NOTHING), strings, 0), "name in no class");
+    hold(refused(farshavan_name_in_class(SCHEMA, 0, 0, 1, NOTHING), output, 0), "a row into nothing");
     hold(refused(farshavan_least_common_name(NOTHING, NOTHING, NOTHING, 0, 0, NOTHING), strings, 0), "no least name");
     hold(refused(farshavan_verdict(NO_TABLES, NOTHING), strings, 0), "verdict on nothing");
     hold(refused(farshavan_match_list(NO_TABLES, NOTHING, NOTHING), strings, 0), "match list of nothing");

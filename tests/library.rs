@@ -50,6 +50,9 @@ fn first_case(y: &mut Tally) {
     y.same("the counts", (answer, counts), ((0, 0), vec![10, 6, 15, 5]));
     let t = Input { bytes, ends, schema, instance };
     y.same("the schema passes", calls::schema_verdict(&t), (0, 0));
+    y.same("a name in a class", calls::name_in_class(&t, 10, (0, 3), 2), ((0, 1), vec![10, 0]));
+    y.same("a name not in it", calls::name_in_class(&t, 10, (0, 1), 2), ((0, 0), vec![NONE, 0]));
+    y.same("a row into nothing", calls::name_in_class(&t, 10, (0, 3), 0), (SHORT, vec![]));
     y.same("valid", calls::verdict(&t, 3), ((0, 1), vec![0; 3]));
     y.same("the strings", calls::string_text(&t, 1, 4), ((0, 3), b"art\0".to_vec()));
     let list = [0, 6, 3, 9, 3, 12, 0, 0];
@@ -106,7 +109,7 @@ fn in_work_buffers(y: &mut Tally, t: &Input, needed: usize) {
 fn nothing(y: &mut Tally) {
     let none = Input::default();
     y.same("schema_verdict", calls::schema_verdict(&none), (1, 0));
-    y.same("name_in_class", calls::name_in_class(&none, 0, (0, 1)), (1, 0));
+    y.same("name_in_class", calls::name_in_class(&none, 0, (0, 1), 0), ((1, 0), vec![]));
     y.same("least_common_name", calls::least_common_name(&none, (0, 0), 0), ((1, 0), vec![]));
     y.same("verdict", calls::verdict(&none, 0), ((1, 0), vec![]));
     y.same("match_list", calls::match_list(&none, 0, 0), ((1, 0), (vec![], vec![])));
@@ -122,7 +125,7 @@ fn nothing(y: &mut Tally) {
 /// The codes that each call can give on tables, and on the files of those that have one.
 const CODES: [(&str, &[u64]); 9] = [
     ("schema_verdict", &[0, 1, 2, 3, 4, 5, 6, 7, 8]),
-    ("name_in_class", &[0, 1, 2, 3, 4, 5, 6, 7, 8, 11]),
+    ("name_in_class", &[0, 1, 2, 3, 4, 5, 6, 7, 8, 11, 12]),
     ("least_common_name", &[0, 1, 2, 3, 4, 5, 6, 7, 8, 11, 12]),
     ("verdict", &[0, 1, 2, 3, 4, 5, 6, 7, 8, 9, 10, 12]),
     ("match_list", &[0, 1, 2, 3, 4, 5, 6, 7, 8, 9, 10, 12]),

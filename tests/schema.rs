@@ -4,6 +4,8 @@
 #[allow(dead_code)]
 #[path = "support/calls.rs"]
 mod calls;
+#[path = "support/class_rows.rs"]
+mod class_rows;
 #[allow(dead_code)]
 #[path = "reference/schema_maker.rs"]
 mod maker;
@@ -15,6 +17,7 @@ mod schema_cases;
 #[path = "support/tally.rs"]
 mod tally;
 
+use class_rows::member;
 use maker::{damage, expand, grow, over, read, rows_of, Rng, Row};
 use reference::{schema, Answer, Input, NONE};
 use schema_cases::*;
@@ -29,14 +32,9 @@ const LIMIT: Duration = Duration::from_secs(5);
 fn verdict(y: &mut Tally, name: &str, s: &Input, expected: Answer) {
     y.same(format_args!("{name}, verdict, {s:?}"), calls::schema_verdict(s), expected);
     if expected != PASSES {
-        member(y, name, s, NONE, (0, 1), expected);
+        member(y, name, s, NONE, (0, 1), expected, &[0; 3]);
         least(y, name, s, (0, NONE), expected, &[0; 3]);
     }
-}
-
-fn member(y: &mut Tally, name: &str, s: &Input, class: u32, (n, l): (u32, u32), expected: Answer) {
-    let got = calls::name_in_class(s, class, (n, l));
-    y.same(format_args!("{name}, name {n}:{l} in class {class}, {s:?}"), got, expected);
 }
 
 /// The answer and the whole output, which has room for so many words.
@@ -169,12 +167,6 @@ fn named_rules(y: &mut Tally) {
 }
 
 fn named_classes(y: &mut Tally) {
-    for (class, yes, no) in MEMBERS {
-        let (schema, marks) = read(&format!("element !{class} none start none"));
-        let s = over(4, schema);
-        yes.iter().for_each(|name| member(y, class, &s, marks[0], *name, (0, 1)));
-        no.iter().for_each(|name| member(y, class, &s, marks[0], *name, (0, 0)));
-    }
     for (one, other, (n, l)) in LEAST {
         let (schema, marks) = read(&format!("element !{one} none element !{other} none start | $0 $1"));
         let s = over(4, schema);
@@ -189,20 +181,29 @@ fn named_classes(y: &mut Tally) {
     }
 }
 
-/// Rows of every sort; those that are classes, each with its least name.
+/// Rows of every sort; those that are classes, each with its least name and the row that holds it.
 fn rows_of_every_sort(y: &mut Tally) {
     let text = "element / 0:1 *- 0:2 | @ 0:3 data- value , + text $0 element 1:* & text @ 0:1 empty";
     let s = over(4, read(&format!("{text} element 2:2 none start | $0 $1")).0);
     verdict(y, "rows of every sort", &s, PASSES);
-    let classes = [(0, 0, 1), (1, 0, 2), (2, 0, 1), (3, 0, 1), (4, 0, 3), (14, 1, 1), (16, 0, 1), (21, 2, 2)];
+    let classes = [
+        (0, (0, 1), 0),
+        (1, (0, 2), 1),
+        (2, (0, 1), 2),
+        (3, (0, 1), 0),
+        (4, (0, 3), 4),
+        (14, (1, 1), 14),
+        (16, (0, 1), 16),
+        (21, (2, 2), 21),
+    ];
     for row in (0..30).chain([256, 270, 512, 65_536, 65_550, 2_147_483_648, NONE - 1, NONE]) {
-        if let Some((_, n, l)) = classes.iter().find(|class| class.0 == row) {
-            least(y, "class and itself", &s, (row, row), (0, 1), &[*n, *l, 0]);
-            member(y, "class", &s, row, (*n, *l), (0, 1));
-            member(y, "class", &s, row, (*n, 0), (0, 0));
+        if let Some(&(_, (n, l), holds)) = classes.iter().find(|class| class.0 == row) {
+            least(y, "class and itself", &s, (row, row), (0, 1), &[n, l, 0]);
+            member(y, "class", &s, row, (n, l), (0, 1), &[holds, 0, 0]);
+            member(y, "class", &s, row, (n, 0), (0, 0), &[NONE, 0, 0]);
             continue;
         }
-        member(y, "no class", &s, row, (0, 1), at(11, row));
+        member(y, "no class", &s, row, (0, 1), at(11, row), &[0; 3]);
         for (pair, place) in [((row, 0), row), ((14, row), row), ((row, NONE), row), ((5, row), 5)] {
             least(y, "no class", &s, pair, at(11, place), &[0; 3]);
         }
@@ -226,7 +227,8 @@ fn compare(y: &mut Tally, r: &Rng, name: &str, s: &Input) -> usize {
     for _ in 0..6 {
         let (k, j) = (r.pick(&some) as u32, r.pick(&some) as u32);
         let asked = (r.pick(&numbers), r.pick(&numbers));
-        member(y, name, s, k, asked, schema::name_in_class(s, k, asked));
+        let (answer, out) = schema::name_in_class(s, k, asked, r.below(4));
+        member(y, name, s, k, asked, answer, &out);
         let (answer, out) = schema::least_common_name(s, (k, j), r.below(5));
         least(y, name, s, (k, j), answer, &out);
     }
@@ -279,7 +281,7 @@ fn large_schemas(y: &mut Tally) {
             let (s, found) = (over(512, schema), (0, name.is_some() as u64));
             for (k, j) in [(marks[0], marks[1]), (marks[1], marks[0])] {
                 least(y, "large classes", &s, (k, j), found, &name.unwrap_or([0, 0]));
-                member(y, "large class", &s, k, (1, 0), (0, 0));
+                member(y, "large class", &s, k, (1, 0), (0, 0), &[NONE, 0]);
             }
         }
     }
@@ -293,7 +295,12 @@ fn main() {
     named_rules(&mut y);
     named_classes(&mut y);
     rows_of_every_sort(&mut y);
+    class_rows::named(&mut y);
+    class_rows::refused(&mut y);
     random_schemas(&mut y, &r);
+    class_rows::small(&mut y);
+    class_rows::random(&mut y, &r);
     large_schemas(&mut y);
+    class_rows::large(&mut y);
     y.end();
 }

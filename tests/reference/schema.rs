@@ -4,7 +4,7 @@
 use std::collections::{BTreeSet, HashSet};
 use std::fmt::{Debug, Formatter, Result as Written};
 
-/// The word that stands for no except.
+/// The word that stands for no except, and for no row in an answer.
 pub const NONE: u32 = 4_294_967_295;
 
 macro_rules! kinds {
@@ -40,15 +40,13 @@ pub fn verdict(input: &Input) -> Answer {
     check(input).err().unwrap_or((0, 0))
 }
 
-/// 1 where the name is in the class, else 0.
-pub fn name_in_class(input: &Input, class: u32, (namespace, local): (u32, u32)) -> Answer {
-    let answer = || {
-        let mut schema = check(input)?;
-        schema.grid.extend([namespace, local]);
-        let names = schema.names(schema.class(class)?);
-        Ok((0, u64::from(names.contains(&(namespace, local)))))
-    };
-    answer().unwrap_or_else(|refused| refused)
+/// 1 where the name is in the class, else 0; and the output for the row that says so, of so many words.
+pub fn name_in_class(input: &Input, class: u32, name: (u32, u32), room: usize) -> (Answer, Vec<u32>) {
+    match check(input).and_then(|mut schema| schema.name_in_class(class, name)) {
+        Err(refused) => (refused, vec![0; room]),
+        Ok(_) if room == 0 => ((12, 0), vec![]),
+        Ok((yes, row)) => ((0, u64::from(yes)), [vec![row], vec![0; room - 1]].concat()),
+    }
 }
 
 /// 1 where the classes have a name in common, else 0; and the output for it, of so many words.
@@ -96,7 +94,7 @@ pub fn string_fault(bytes: &[u8], ends: &[u32]) -> Option<usize> {
 
 /// Codes 1 to 8.
 #[rustfmt::skip]
-fn check(input: &Input) -> Result<Schema, Answer> {
+pub fn check(input: &Input) -> Result<Schema, Answer> {
     if let Some(place) = string_fault(&input.bytes, &input.ends) {
         return Err(fault(1, place));
     }
@@ -148,12 +146,11 @@ fn fields(kind: u32) -> Option<[Field; 2]> {
 /// A row used as a child, its parent, and the field of the parent that names it.
 type Use = (usize, usize, usize);
 
-struct Schema {
+pub struct Schema {
     rows: Vec<[u32; 3]>,
     strings: u32,
-    /// For each row the kinds of all rows above it, the nearest first, each with the field that
-    /// leads down from there.
-    above: Vec<Vec<(u32, usize)>>,
+    /// For each row all rows above it, the nearest first, each with its kind and the field that leads down from there.
+    above: Vec<Vec<(usize, u32, usize)>>,
     /// The numbers that names are listed over.
     grid: BTreeSet<u32>,
 }
@@ -214,13 +211,18 @@ impl Schema {
         !good || parents != wanted || last != (kind == START)
     }
     /// What is above a row, up to its definition or start.
-    fn path(&self, row: usize, uses: &[Use]) -> Vec<(u32, usize)> {
+    fn path(&self, row: usize, uses: &[Use]) -> Vec<(usize, u32, usize)> {
         let (mut path, mut here) = (vec![], row);
         while let Some(&(_, parent, field)) = uses.iter().find(|(child, ..)| *child == here) {
-            path.push((self.kind(parent), field));
+            path.push((parent, self.kind(parent), field));
             here = parent;
         }
         path
+    }
+
+    /// Whether a row of this kind is above a row, with this field leading down.
+    fn is_below(&self, row: usize, kind: u32, field: usize) -> bool {
+        self.above[row].iter().any(|&(_, above, down)| (above, down) == (kind, field))
     }
 
     // Codes 3 to 8.
@@ -237,31 +239,29 @@ impl Schema {
     }
     fn out_of_place(&self, row: usize) -> bool {
         match (self.kind(row), self.above[row].first()) {
-            (NOT_ALLOWED, parent) => !matches!(parent, Some((ELEMENT | START, _))),
-            (EMPTY, Some((ELEMENT | START | ATTRIBUTE | DATA | LIST, _) | (CHOICE, 0))) => false,
+            (NOT_ALLOWED, parent) => !matches!(parent, Some((_, ELEMENT | START, _))),
+            (EMPTY, Some((_, ELEMENT | START | ATTRIBUTE | DATA | LIST, _) | (_, CHOICE, 0))) => false,
             (kind, _) => kind == EMPTY,
         }
     }
     fn bad_in_except(&self, row: usize) -> bool {
-        let below_any = self.above[row].contains(&(ANY_NAME, 0));
-        let below_ns = self.above[row].contains(&(NS_NAME, 1));
         match self.kind(row) {
-            ANY_NAME => below_any || below_ns,
-            NS_NAME => below_ns,
+            ANY_NAME => self.is_below(row, ANY_NAME, 0) || self.is_below(row, NS_NAME, 1),
+            NS_NAME => self.is_below(row, NS_NAME, 1),
             _ => false,
         }
     }
     #[rustfmt::skip]
     fn prohibited(&self, row: usize) -> bool {
-        let (path, kind) = (&self.above[row], self.kind(row));
-        let kinds: Vec<u32> = path.iter().map(|(kind, _)| *kind).collect();
+        let kind = self.kind(row);
+        let kinds: Vec<u32> = self.above[row].iter().map(|&(_, kind, _)| kind).collect();
         let joins = |k: usize| kinds[k] == GROUP || kinds[k] == INTERLEAVE;
         let repeated = |k: usize| joins(k) && kinds[k + 1..].contains(&ONE_OR_MORE);
         let never: [(bool, &[u32]); 5] = [
             (kinds.contains(&ATTRIBUTE), &[REF, ATTRIBUTE]),
             ((0..kinds.len()).any(repeated), &[ATTRIBUTE]),
             (kinds.contains(&LIST), &[LIST, REF, ATTRIBUTE, TEXT, INTERLEAVE]),
-            (path.contains(&(DATA, 1)),
+            (self.is_below(row, DATA, 1),
                 &[ATTRIBUTE, REF, TEXT, LIST, GROUP, INTERLEAVE, ONE_OR_MORE, EMPTY]),
             (kinds.contains(&START),
                 &[ATTRIBUTE, DATA, VALUE, TEXT, LIST, GROUP, INTERLEAVE, ONE_OR_MORE, EMPTY]),
@@ -295,7 +295,7 @@ impl Schema {
     fn not_groupable(&self, row: usize) -> bool {
         let [kind, a, b] = self.rows[row];
         let (one, other) = match kind {
-            _ if self.above[row].contains(&(LIST, 0)) => return false,
+            _ if self.is_below(row, LIST, 0) => return false,
             GROUP | INTERLEAVE => (self.content(a), self.content(b)),
             ONE_OR_MORE => (self.content(a), self.content(a)),
             _ => return false,
@@ -325,8 +325,7 @@ impl Schema {
     /// An attribute with anyName or nsName in its class, and no oneOrMore above it.
     fn wild_attribute(&self, row: usize) -> bool {
         let [kind, class, _] = self.rows[row];
-        let repeated = self.above[row].iter().any(|(kind, _)| *kind == ONE_OR_MORE);
-        kind == ATTRIBUTE && self.is_wild(class) && !repeated
+        kind == ATTRIBUTE && self.is_wild(class) && !self.is_below(row, ONE_OR_MORE, 0)
     }
     fn is_wild(&self, class: u32) -> bool {
         match self.rows[class as usize] {
@@ -342,6 +341,32 @@ impl Schema {
 
     // Names.
 
+    /// Whether a class holds a name, and the row that says so, or NONE.
+    pub fn name_in_class(&mut self, class: u32, name: (u32, u32)) -> Result<(bool, u32), Answer> {
+        // Whether one name is in a class does not rest on another.
+        self.grid = BTreeSet::from([name.0, name.1]);
+        let class = self.class(class)?;
+        let holds = |row: &u32| *row != NONE && self.names(*row as usize).contains(&name);
+        let rows = self.below_no_except(class).into_iter();
+        if holds(&(class as u32)) {
+            let leaves = rows.filter(|&row| self.kind(row) != CLASS_CHOICE).map(|row| row as u32);
+            return Ok((true, leaves.filter(holds).min().expect("a row that holds the name")));
+        }
+        let except = |row: usize| match self.rows[row] {
+            [ANY_NAME, except, _] => Some(except),
+            [NS_NAME, namespace, except] if namespace == name.0 => Some(except),
+            _ => None,
+        };
+        Ok((false, rows.filter_map(except).filter(holds).min().unwrap_or(NONE)))
+    }
+    /// The rows that lie in a class below no except: no row on the way up to the class is the except of its parent.
+    fn below_no_except(&self, class: usize) -> Vec<usize> {
+        let lies = |&row: &usize| match self.above[row].iter().position(|&(above, ..)| above == class) {
+            Some(end) => !self.above[row][..=end].iter().any(|up| matches!(up, (_, ANY_NAME, 0) | (_, NS_NAME, 1))),
+            None => row == class,
+        };
+        (0..=class).filter(lies).collect()
+    }
     /// All numbers from 0 to one past the largest in a class. The one past stands for all others.
     fn numbers(&self) -> BTreeSet<u32> {
         let largest = |row: &[u32; 3]| match *row {

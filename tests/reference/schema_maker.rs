@@ -206,7 +206,7 @@ pub fn rows_of(words: &[u32]) -> Vec<Row> {
     rows.map(|row| [row[0], row[1], row[2]]).collect()
 }
 /// Changes all fields that name a row.
-fn renumber(rows: &mut [Row], new: impl Fn(u32) -> u32) {
+pub fn renumber(rows: &mut [Row], new: impl Fn(u32) -> u32) {
     for [kind, a, b] in rows {
         if matches!(kind, 6..=12 | 16 | 19..=21) && *a != NONE {
             *a = new(*a);

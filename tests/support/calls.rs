@@ -4,7 +4,7 @@
 use super::reference::calls::Read;
 use super::reference::{Answer, Input};
 use farshavan::lent::{self, JobOutputs};
-use farshavan::{Name, Refusal, Strings, Tables, Validity};
+use farshavan::{Membership, Name, Refusal, Strings, Tables, Validity};
 
 const OTHER: u8 = 0xA5;
 const AFTER: usize = 8;
@@ -49,8 +49,10 @@ pub fn schema_verdict(t: &Input) -> Answer {
     answer(lent::schema_verdict(strings(t), &t.schema).map(|()| 0))
 }
 
-pub fn name_in_class(t: &Input, class: u32, (namespace, local): (u32, u32)) -> Answer {
-    answer(lent::name_in_class(strings(t), &t.schema, class, Name { namespace, local }).map(u64::from))
+pub fn name_in_class(t: &Input, class: u32, (namespace, local): (u32, u32), room: usize) -> (Answer, Vec<u32>) {
+    let mut row = Output::new(room);
+    let found = lent::name_in_class(strings(t), &t.schema, class, Name { namespace, local }, row.lent());
+    (answer(found.map(|member| u64::from(matches!(member, Membership::Yes { .. })))), row.held())
 }
 
 pub fn least_common_name(t: &Input, (first, second): (u32, u32), room: usize) -> (Answer, Vec<u32>) {

@@ -72,10 +72,10 @@ impl<'a> EveryCall<'a> {
         };
         let number = || r.pick(&[0, 1, 2, r.below(t.ends.len() + 2) as u32, NONE]);
         let (asked, name) = (class(), (number(), number()));
-        let wanted = (schema::name_in_class(t, asked, name), ());
-        self.same("name_in_class", &(asked, name, t), (calls::name_in_class(t, asked, name), ()), wanted);
         let pair = (class(), class());
         for room in 0..4 {
+            let wanted = schema::name_in_class(t, asked, name, room);
+            self.same("name_in_class", &(asked, name, t), calls::name_in_class(t, asked, name, room), wanted);
             let wanted = schema::least_common_name(t, pair, room);
             self.same("least_common_name", &(pair, t), calls::least_common_name(t, pair, room), wanted);
         }

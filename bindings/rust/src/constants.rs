@@ -1,6 +1,6 @@
 //! The numbers of the tables.
 
-/// The word for no except in a schema row and for no parent in an instance row; `-` in a job file.
+/// The word for no except in a schema row, no parent in an instance row, no row in an answer; `-` in a job file.
 pub const NONE: u32 = u32::MAX;
 
 /// The kinds of schema rows. A field that is not named is 0.

@@ -5,16 +5,28 @@
 
 use crate::library;
 use crate::refusal::answer;
-use crate::{Counts, Name, Pair, Refusal, Strings, Tables, Validity};
+use crate::{Counts, Membership, Name, Pair, Refusal, Strings, Tables, Validity, NONE};
 
 /// Whether the schema keeps the simple form and its restrictions: codes 1 to 8.
 pub fn schema_verdict(strings: Strings, schema: &[u32]) -> Result<(), Refusal> {
     answer(library::schema_verdict(strings, schema)).map(|_| ())
 }
 
-/// Whether the name class at a row holds a name: codes 1 to 8, and 11 where the row is no name class.
-pub fn name_in_class(strings: Strings, schema: &[u32], class: u32, name: Name) -> Result<bool, Refusal> {
-    answer(library::name_in_class(strings, schema, class, name.namespace, name.local)).map(|yes| yes == 1)
+/// Whether the name class at a row holds a name, and which row says so. That row is in the first word of `row`, too,
+/// and [`NONE`] is there where no row says so. Codes 1 to 8, 11 where the row asked for is no name class, and 12 where
+/// no word is lent.
+pub fn name_in_class(
+    strings: Strings,
+    schema: &[u32],
+    class: u32,
+    name: Name,
+    row: &mut [u32],
+) -> Result<Membership, Refusal> {
+    let yes = answer(library::name_in_class(strings, schema, class, name, row))?;
+    Ok(match (yes, row[0]) {
+        (1, row) => Membership::Yes { row },
+        (_, except) => Membership::No { except: (except != NONE).then_some(except) },
+    })
 }
 
 /// The least name, by namespace and then by local name, that the name classes at two rows have in common. Its two words

@@ -42,7 +42,7 @@ mod refusal;
 mod tables;
 
 pub use constants::{datatype, kind, limit, node, NONE};
-pub use lent::{name_in_class, schema_verdict};
-pub use owned::{least_common_name, match_list, read_job, report, string_text, verdict, write_job};
+pub use lent::schema_verdict;
+pub use owned::{least_common_name, match_list, name_in_class, read_job, report, string_text, verdict, write_job};
 pub use refusal::{Code, Refusal};
-pub use tables::{Counts, Job, MatchList, Name, Pair, Strings, Tables, Validity};
+pub use tables::{Counts, Job, MatchList, Membership, Name, Pair, Strings, Tables, Validity};

@@ -5,7 +5,7 @@
 //! call alone, so that buffers are valid and no output overlaps another buffer. The functions are proved to read and
 //! write within these lengths only, for all contents, and they keep no pointer.
 
-use crate::{Strings, Tables};
+use crate::{Name, Strings, Tables};
 
 #[rustfmt::skip]
 extern "C" {
@@ -16,6 +16,7 @@ extern "C" {
     fn farshavan_name_in_class(
         bytes: *const u8, bytes_length: usize, ends: *const u32, ends_length: usize,
         schema: *const u32, schema_length: usize, class: u32, namespace: u32, local: u32,
+        row: *mut u32, row_length: usize,
     ) -> u64;
     fn farshavan_least_common_name(
         bytes: *const u8, bytes_length: usize, ends: *const u32, ends_length: usize,
@@ -65,8 +66,8 @@ pub fn schema_verdict(strings: Strings, schema: &[u32]) -> u64 {
     call!(farshavan_schema_verdict(strings.bytes, strings.ends, schema;;))
 }
 
-pub fn name_in_class(strings: Strings, schema: &[u32], class: u32, namespace: u32, local: u32) -> u64 {
-    call!(farshavan_name_in_class(strings.bytes, strings.ends, schema; class, namespace, local;))
+pub fn name_in_class(strings: Strings, schema: &[u32], class: u32, name: Name, row: &mut [u32]) -> u64 {
+    call!(farshavan_name_in_class(strings.bytes, strings.ends, schema; class, name.namespace, name.local; row))
 }
 
 pub fn least_common_name(strings: Strings, schema: &[u32], first: u32, second: u32, name: &mut [u32]) -> u64 {

@@ -1,7 +1,13 @@
 //! The calls with outputs that are made here and are long enough.
 
 use crate::lent::{self, JobOutputs};
-use crate::{kind, limit, node, Job, MatchList, Name, Refusal, Strings, Tables, Validity};
+use crate::{kind, limit, node, Job, MatchList, Membership, Name, Refusal, Strings, Tables, Validity};
+
+/// Whether the name class at a row holds a name, and which row says so: codes 1 to 8, and 11 where the row asked for is
+/// no name class.
+pub fn name_in_class(strings: Strings, schema: &[u32], class: u32, name: Name) -> Result<Membership, Refusal> {
+    lent::name_in_class(strings, schema, class, name, &mut [0])
+}
 
 /// The least name, by namespace and then by local name, that the name classes at two rows have in common: codes 1 to 8,
 /// and 11 at the first row that is no name class.

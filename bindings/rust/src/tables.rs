@@ -1,4 +1,4 @@
-//! What calls take and give: tables, names, pairs, counts.
+//! What calls take and give: tables, names, rows, pairs, counts.
 
 /// A table of strings: string k runs from the end before its own, 0 for string 0, to its own.
 #[derive(Clone, Copy, Debug, PartialEq, Eq)]
@@ -52,6 +52,23 @@ pub struct Name {
     pub namespace: u32,
     /// The local name.
     pub local: u32,
+}
+
+/// Whether a name class holds a name, and which row says so. Only excepts within the class asked for count.
+#[derive(Clone, Copy, Debug, PartialEq, Eq, Hash)]
+pub enum Membership {
+    /// It holds the name.
+    Yes {
+        /// The smallest row of an anyName, an nsName or a name that lies in the class below no except and, taken with
+        /// its own except, holds the name.
+        row: u32,
+    },
+    /// It does not.
+    No {
+        /// The smallest except class that holds the name, under an anyName or an nsName of the name's namespace that
+        /// lies in the class below no except; `None` where there is none.
+        except: Option<u32>,
+    },
 }
 
 /// Whether an instance is valid by a schema.

@@ -52,11 +52,34 @@ fn names_and_classes() {
     let job = first();
     let name = |local: u32| Name { namespace: 0, local };
     assert_eq!(schema_verdict(job.strings(), &job.schema), Ok(()));
-    assert_eq!(name_in_class(job.strings(), &job.schema, 0, name(1)), Ok(true));
-    assert_eq!(name_in_class(job.strings(), &job.schema, 0, name(2)), Ok(false));
+    assert_eq!(name_in_class(job.strings(), &job.schema, 10, name(3)), Ok(Membership::Yes { row: 10 }));
+    assert_eq!(name_in_class(job.strings(), &job.schema, 10, name(2)), Ok(Membership::No { except: None }));
+    assert_eq!(name_in_class(job.strings(), &job.schema, 2, name(1)), refused(Code::NotAClass, 2));
     assert_eq!(least_common_name(job.strings(), &job.schema, 7, 10), Ok(Some(name(3))));
     assert_eq!(least_common_name(job.strings(), &job.schema, 0, 7), Ok(None));
     assert_eq!(least_common_name(job.strings(), &job.schema, 0, 2), refused(Code::NotAClass, 2));
+}
+
+/// Row 3 is the choice of the name b, at row 2, and of any name but a, at row 1.
+#[test]
+fn the_row_that_says_whether_a_name_is_in_a_class() {
+    let strings = Strings { bytes: b"ab", ends: &[0, 1, 2] };
+    let class = [[kind::NAME, 0, 1], [kind::ANY_NAME, 0, 0], [kind::NAME, 0, 2], [kind::NAME_CHOICE, 2, 1]];
+    let rest = [[kind::NOT_ALLOWED, 0, 0], [kind::ELEMENT, 3, 4], [kind::NOT_ALLOWED, 0, 0], [kind::START, 6, 0]];
+    let schema = [class.concat(), rest.concat()].concat();
+    let name = |local: u32| Name { namespace: 0, local };
+    let asked = |class: u32, local: u32| name_in_class(strings, &schema, class, name(local));
+    assert_eq!(asked(3, 2), Ok(Membership::Yes { row: 1 }));
+    assert_eq!(asked(3, 1), Ok(Membership::No { except: Some(0) }));
+    assert_eq!(asked(2, 1), Ok(Membership::No { except: None }));
+    let mut row = [7; 3];
+    assert_eq!(lent::name_in_class(strings, &schema, 3, name(2), &mut row), Ok(Membership::Yes { row: 1 }));
+    assert_eq!(row, [1, 0, 0]);
+    assert_eq!(lent::name_in_class(strings, &schema, 3, name(0), &mut row), Ok(Membership::No { except: None }));
+    assert_eq!(row, [NONE, 0, 0]);
+    assert_eq!(lent::name_in_class(strings, &schema, 4, name(2), &mut row), refused(Code::NotAClass, 4));
+    assert_eq!(row, [0; 3]);
+    assert_eq!(lent::name_in_class(strings, &schema, 3, name(2), &mut []), refused(Code::Output, 0));
 }
 
 #[test]

@@ -43,8 +43,8 @@ packedVerdict v = packedRefusal (codeOf v) (placeOf v)
 
 -- 1 for yes and 0 for no
 abbrev pub packedMembership : Membership → ℕ
-packedMembership Yes = 1
-packedMembership No = 0
+packedMembership (Yes row) = 1
+packedMembership (No row) = 0
 packedMembership (NotJudged code place) = packedRefusal code place
 
 -- 1 where there is a name and 0 where there is none
@@ -75,7 +75,12 @@ abbrev pub packedWritten : JobWritten → ℕ
 packedWritten (Written size) = size
 packedWritten (NotWritten code place) = packedRefusal code place
 
--- what is handed over in an output beside the number: the name, the counts; nothing beside a refusal
+-- what is handed over in an output beside the number: the row, the name, the counts; nothing beside a refusal
+abbrev pub rowWords : Membership → List ℕ
+rowWords (Yes row) = row ∷ []
+rowWords (No row) = row ∷ []
+rowWords (NotJudged code place) = []
+
 abbrev pub nameWords : CommonName → List ℕ
 nameWords (Least namespace local) = namespace ∷ local ∷ []
 nameWords None = []
@@ -101,10 +106,11 @@ pub record PackedSchema (T : StringTable) (s : List ℕ) (r : ℕ) : Type 0 wher
   pub promise : SchemaRefusal T s Passes answer
   pub number : r ≡ packedVerdict answer
 
-pub record PackedMember (T : StringTable) (s : List ℕ) (class namespace local : ℕ) (r : ℕ) : Type 0 where
-  pub answer : Membership
-  pub promise : NameInClass T s class namespace local answer
-  pub number : r ≡ packedMembership answer
+pub record PackedMember (T : StringTable) (s : List ℕ) (class namespace local room : ℕ) (row : List ℕ) (r : ℕ) : Type 0
+  where
+    pub answer : Membership
+    pub promise : NameInClass T s class namespace local answer
+    pub handed : Handed (rowWords answer) (packedMembership answer) room row r
 
 pub record PackedLeast (T : StringTable) (s : List ℕ) (first second room : ℕ) (name : List ℕ) (r : ℕ) : Type 0 where
   pub answer : CommonName

@@ -19,6 +19,7 @@ ghost use Rattle.farshavan.specs.Packed.{
   packedValidation,
   packedMatches,
   packedWritten,
+  rowWords,
   nameWords,
   packedName,
   Handed,
@@ -57,31 +58,6 @@ pub extern "C" fn farshavan_schema_verdict(bytes: &[u8], ends: &[u32], schema: &
     pack_verdict(relaxng::schema_verdict(bytes, ends, schema))
 }
 
-fn pack_membership(answer: Membership) -> u64
-    ensures { λ r. ⌜ r ≡ packedMembership answer ⌝ }
-{
-    match answer {
-        Membership::Yes => 1,
-        Membership::No => 0,
-        Membership::NotJudged(code, place) => pack_refusal(code, place),
-    }
-}
-
-// Whether a name is in the class at a row: 1 or 0, or the refusal.
-#[no_mangle]
-pub extern "C" fn farshavan_name_in_class(
-    bytes: &[u8],
-    ends: &[u32],
-    schema: &[u32],
-    class: u32,
-    namespace: u32,
-    local: u32,
-) -> u64
-    ensures { λ r. ⌜ PackedMember (stringTable (now (bytes .entry)) (now (ends .entry))) (now (schema .entry)) class namespace local r ⌝ }
-{
-    pack_membership(relaxng::name_in_class(bytes, ends, schema, class, namespace, local))
-}
-
 // A run of words in an output that it fits into, with its number; else the refusal.
 fn hand_words(run: &[u32], value: u64, out: &mut [u32]) -> u64
     ensures { λ r. ⌜ Handed (now (run .entry)) value (length (now (out .entry))) (now (out .exit)) r ⌝ }
@@ -92,6 +68,47 @@ fn hand_words(run: &[u32], value: u64, out: &mut [u32]) -> u64
     }
     tables::lay_u32(out, run);
     value
+}
+
+fn hand_row(answer: Membership, row: &mut [u32]) -> u64
+    ensures { λ r. ⌜ Handed (rowWords answer) (packedMembership answer) (length (now (row .entry))) (now (row .exit)) r ⌝ }
+{
+    match answer {
+        Membership::Yes(at) => {
+            let words = [at];
+            hand_words(&words, 1, row)
+        }
+        Membership::No(at) => {
+            let words = [at];
+            hand_words(&words, 0, row)
+        }
+        Membership::NotJudged(code, place) => {
+            tables::zero_u32(row);
+            pack_refusal(code, place)
+        }
+    }
+}
+
+// Whether a name is in the class at a row: 1 or 0, with the row that says so in the output and zeros after it, or the
+// refusal, by 12 where the output has no word.
+#[no_mangle]
+pub extern "C" fn farshavan_name_in_class(
+    bytes: &[u8],
+    ends: &[u32],
+    schema: &[u32],
+    class: u32,
+    namespace: u32,
+    local: u32,
+    row: &mut [u32],
+) -> u64
+    ensures { λ r.
+        ⌜ PackedMember (stringTable (now (bytes .entry)) (now (ends .entry))) (now (schema .entry)) class namespace local
+        (length (now (row .entry))) (now (row .exit)) r ⌝ }
+{
+    hand_row(
+        relaxng::name_in_class(bytes, ends, schema, class, namespace, local),
+        row,
+    )
 }
 
 fn hand_name(answer: CommonName, name: &mut [u32]) -> u64

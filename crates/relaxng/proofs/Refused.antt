@@ -15,9 +15,13 @@ use Rattle.tables.proofs.Chain.{tries-map, tries-go}
 use Rattle.schema.specs.Rows.{sortOf, isClass}
 use Rattle.schema.specs.RowRule.{RowsRight}
 use Rattle.relaxng.specs.Answers.{commonVerdict, foundName, commonName}
+use Rattle.schema_classes.specs.WhichRow.{Judged}
+use Rattle.schema_classes.specs.declared.Member.{Member}
+use Rattle.schema_classes.specs.declared.Member.the-variants as member
 use Rattle.schema_classes.specs.declared.Found.{Found}
 use Rattle.schema_classes.specs.declared.Found.the-variants.{Name, Nothing}
-use Rattle.relaxng.specs.Promises.{SchemaRefusal, NotClass, NoClass, not-first, not-second}
+use Rattle.relaxng.specs.Promises.{SchemaRefusal, NotClass, NoClass, not-first, not-second, NameInClass}
+use Rattle.relaxng.specs.declared.Membership.the-variants.{Yes, No}
 
 pub refused-passed : {code place : ℕ} → Refused code place ≡ Passed → ⊥
 refused-passed e = let z : _≡_ {A = ℕ} 0 1 = cc in omega arith
@@ -108,6 +112,25 @@ module _ (s : List ℕ) (first second : ℕ) where
         none : (i : ℕ) → ¬ NoClass s first second i
         none i (not-first f) = true≢false (sym c ∙ f .0)
         none i (not-second g f) = true≢false (sym e ∙ f .0)
+
+-- a class that is asked refuses nothing, and the answer is what it says
+module _ {T : StringTable} {s : List ℕ} {v : Verdict} (passed : v ≡ Passed) (r : SchemaRefusal T s Passes v)
+    {class u l : ℕ} (is : isClass (sortOf s class) ≡ true) {m : Member} {row : ℕ} where
+  pub says-yes : m ≡ member.Yes row → Judged s u l class m → NameInClass T s class u l (Yes row)
+  says-yes e j = record {
+    refusal = schema-passed passed r (a-class s class is);
+    answer = rw e at (j .answer);
+    row = λ q. rw e at (j .row);
+    no-row = λ q. absurd (q refl);
+  }
+
+  pub says-no : m ≡ member.No row → Judged s u l class m → NameInClass T s class u l (No row)
+  says-no e j = record {
+    refusal = schema-passed passed r (a-class s class is);
+    answer = rw e at (j .answer);
+    row = λ q. rw e at (j .row);
+    no-row = λ q. absurd (q refl);
+  }
 
 -- a search that was made refuses nothing, and its answer is what it found
 pub found-passes : (f : Found) → commonVerdict (commonName f) ≡ Passed

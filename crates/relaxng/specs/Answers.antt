@@ -1,5 +1,6 @@
 -- What each case of an answer says (FORMAT, "Calls and outputs"): of refusal, as a verdict, whose code and place are
--- `codeOf` and `placeOf` of it, 0 and 0 where nothing is refused; yes or no; the name or none; the number of pairs.
+-- `codeOf` and `placeOf` of it, 0 and 0 where nothing is refused; yes or no, and the row; the name or none; the number
+-- of pairs.
 use Prim.Native.Nat.{ℕ}
 use mathlib.Core.Bool.{Bool, true, false}
 use Rattle.tables.specs.declared.Verdict.{Verdict}
@@ -20,8 +21,8 @@ use Rattle.schema_classes.specs.declared.Found.the-variants.{Name, Nothing}
 
 -- what an answer says of refusal
 abbrev pub membershipVerdict : Membership → Verdict
-membershipVerdict Yes = Passed
-membershipVerdict No = Passed
+membershipVerdict (Yes row) = Passed
+membershipVerdict (No row) = Passed
 membershipVerdict (NotJudged code place) = Refused code place
 
 abbrev pub commonVerdict : CommonName → Verdict
@@ -41,9 +42,14 @@ matchVerdict (NotMatched code place) = Refused code place
 
 -- what it answers; no, none or 0 beside a refusal
 abbrev pub isYes : Membership → Bool
-isYes Yes = true
-isYes No = false
+isYes (Yes row) = true
+isYes (No row) = false
 isYes (NotJudged code place) = false
+
+abbrev pub rowOf : Membership → ℕ
+rowOf (Yes row) = row
+rowOf (No row) = row
+rowOf (NotJudged code place) = 0
 
 abbrev pub foundName : CommonName → Found
 foundName (Least namespace local) = Name namespace local

@@ -10,9 +10,10 @@ use Rattle.tables.specs.declared.Verdict.{Verdict}
 use Rattle.strings.specs.Strings.{StringFault, schemaStrings}
 use Rattle.schema.specs.Rows.{sortOf, isClass}
 use Rattle.schema_classes.specs.Membership.{inClass}
+use Rattle.schema_classes.specs.WhichRow.{WhichRow}
 use Rattle.schema_classes.specs.Least as least
 use Rattle.schema_restrictions.specs.Schema.{SchemaTries}
-use Rattle.relaxng.specs.Answers.{membershipVerdict, commonVerdict, isYes, foundName}
+use Rattle.relaxng.specs.Answers.{membershipVerdict, commonVerdict, isYes, rowOf, foundName}
 use Rattle.relaxng.specs.declared.Membership.{Membership}
 use Rattle.relaxng.specs.declared.CommonName.{CommonName}
 
@@ -28,10 +29,13 @@ pub data NoClass (s : List ℕ) (first second place : ℕ) : Type 0 where
   not-first : NotClass s first place → NoClass s first second place
   not-second : isClass (sortOf s first) ≡ true → NotClass s second place → NoClass s first second place
 
--- yes exactly where nothing is refused and the name is in the class
+-- yes exactly where nothing is refused and the name is in the class, with the row of the class that says so; the row 0
+-- beside a refusal
 pub record NameInClass (T : StringTable) (s : List ℕ) (class namespace local : ℕ) (r : Membership) : Type 0 where
   pub refusal : SchemaRefusal T s (Tries 11 (NotClass s class) Passes) (membershipVerdict r)
   pub answer : isYes r ≡ (eqb (codeOf (membershipVerdict r)) 0 && inClass s namespace local class)
+  pub row : codeOf (membershipVerdict r) ≡ 0 → WhichRow s namespace local class (isYes r) (rowOf r)
+  pub no-row : ¬ (codeOf (membershipVerdict r) ≡ 0) → rowOf r ≡ 0
 
 -- the least name that both classes hold or none, where nothing is refused
 pub record LeastCommonName (T : StringTable) (s : List ℕ) (first second : ℕ) (r : CommonName) : Type 0 where

@@ -1,6 +1,7 @@
 // The public calls.
 use matching_list::Answer;
 use schema_classes::Found;
+use schema_classes::Member;
 use tables::Checked;
 use tables::Verdict;
 ghost use mathlib.Core.Path.{_≡_};
@@ -12,10 +13,11 @@ ghost use Rattle.relaxng.specs.Answers.{commonName, matchAnswer};
 ghost use Rattle.relaxng.specs.Matching.{InstanceRefusal, WorkRefusal, GivesVerdict, ListsMatches};
 ghost use Rattle.relaxng.specs.Promises.{SchemaRefusal, NameInClass, LeastCommonName};
 
-// Whether a name is in a class, or the refusal with its code and place.
+// Whether a name is in a class, with the row of the class that says so, or NO_ROW for a no without one; or the refusal
+// with its code and place.
 pub enum Membership {
-    Yes,
-    No,
+    Yes(u32),
+    No(u32),
     NotJudged(u32, u32),
 }
 
@@ -53,7 +55,8 @@ pub fn schema_verdict(bytes: &[u8], ends: &[u32], schema: &[u32]) -> Verdict
     schema_restrictions::check_schema(ends.len(), schema)
 }
 
-// Whether a name is in the class at a row: codes 1 to 8, then 11 at a row that is no name class.
+// Whether a name is in the class at a row, with the row of the class that says so: codes 1 to 8, then 11 at a row that
+// is no name class.
 pub fn name_in_class(
     bytes: &[u8],
     ends: &[u32],
@@ -71,10 +74,9 @@ pub fn name_in_class(
     if !schema::is_class_row(schema, class) {
         return Membership::NotJudged(11, class);
     }
-    if schema_classes::in_class(schema, class, namespace, local) {
-        Membership::Yes
-    } else {
-        Membership::No
+    match schema_classes::membership(schema, class, namespace, local) {
+        Member::Yes(row) => Membership::Yes(row),
+        Member::No(row) => Membership::No(row),
     }
 }
 

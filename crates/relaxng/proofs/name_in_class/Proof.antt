@@ -1,7 +1,8 @@
--- A refusal of the schema stands; a schema that passes leaves code 11 and the answer.
+-- A refusal of the schema stands; a schema that passes leaves code 11 and what the class says.
 use mathlib.Core.Path.{refl, sym, _∙_}
+use native.Mathlib.Omega.{arith}
 use borrow.Author.Tests.{not-true, not-false}
-use Rattle.relaxng.proofs.Refused.{schema-passed, refused-as, code-above, no-yes, no-class, a-class}
+use Rattle.relaxng.proofs.Refused.{schema-passed, refused-as, code-above, no-yes, no-class, says-yes, says-no}
 use borrow.Author.Needs.{needs}
 use Rattle.relaxng.proofs.name_in_class.Statement.{statement}
 use Rattle.relaxng.proofs.name_in_class.Tie as tie
@@ -22,12 +23,16 @@ place-of-requires : tie.Need-place-of-requires
 place-of-requires c κs = search needs
 
 returns : tie.Need-returns
-returns c = record {
-  refusal = refused-as (c .before .before .enum-told2 .given .1) (c .before .code-of .ensures)
-      (c .place-of .ensures) (c .before .before .before .before .schema-verdict .ensures);
-  answer = no-yes _ (code-above (c .before .before .enum-told2 .given .1) (c .before .code-of .ensures)
-      (c .place-of .ensures) (c .before .before .before .before .schema-verdict .ensures));
-}
+returns c =
+    let above = code-above (c .before .before .enum-told2 .given .1) (c .before .code-of .ensures)
+    (c .place-of .ensures) (c .before .before .before .before .schema-verdict .ensures) in
+    record {
+      refusal = refused-as (c .before .before .enum-told2 .given .1) (c .before .code-of .ensures)
+          (c .place-of .ensures) (c .before .before .before .before .schema-verdict .ensures);
+      answer = no-yes _ above;
+      row = λ q. absurd (omega arith);
+      no-row = λ q. refl;
+    }
 
 is-class-row-requires : tie.Need-is-class-row-requires
 is-class-row-requires c κs = search needs
@@ -40,30 +45,34 @@ returns-2 c =
           (c .before .before .before .before .schema-verdict .ensures)
           (no-class (a .schema .now) (a .class) (sym (c .before .is-class-row .ensures) ∙ not-true _ (c .if1 .taken)));
       answer = refl;
+      row = λ q. absurd (omega arith);
+      no-row = λ q. refl;
     }
 
-in-class-requires : tie.Need-in-class-requires
-in-class-requires c κs = search needs
+membership-requires : tie.Need-membership-requires
+membership-requires c κs = search needs
+
+enum-known-row : tie.Need-enum-known-row
+enum-known-row c = search needs
+
+enum-known-row-2 : tie.Need-enum-known-row-2
+enum-known-row-2 c = search needs
 
 returns-3 : tie.Need-returns-3
-returns-3 c = record {
-  refusal = schema-passed (c .before .before .before .before .enum-told .given .1)
-      (c .before .before .before .before .before .before .schema-verdict .ensures)
-      (a-class (c .before .before .before .before .before .before .before .before .before .before .args .schema .now)
-      (c .before .before .before .before .before .before .before .before .before .before .args .class)
-      (sym (c .before .before .before .is-class-row .ensures) ∙ not-false _ (c .before .before .if1 .left)));
-  answer = sym (c .if2 .taken) ∙ c .before .in-class .ensures;
-}
+returns-3 c =
+    let asked = c .before .before .before in
+    let passed = asked .before .before .before in
+    says-yes (passed .enum-told .given .1) (passed .before .before .schema-verdict .ensures)
+    (sym (asked .before .before .is-class-row .ensures) ∙ not-false _ (asked .before .if1 .left))
+    (c .before .row .given .1) (asked .membership .ensures)
 
 returns-4 : tie.Need-returns-4
-returns-4 c = record {
-  refusal = schema-passed (c .before .before .before .before .enum-told .given .1)
-      (c .before .before .before .before .before .before .schema-verdict .ensures)
-      (a-class (c .before .before .before .before .before .before .before .before .before .before .args .schema .now)
-      (c .before .before .before .before .before .before .before .before .before .before .args .class)
-      (sym (c .before .before .before .is-class-row .ensures) ∙ not-false _ (c .before .before .if1 .left)));
-  answer = sym (c .if2 .left) ∙ c .before .in-class .ensures;
-}
+returns-4 c =
+    let asked = c .before .before .before in
+    let passed = asked .before .before .before in
+    says-no (passed .enum-told .given .1) (passed .before .before .schema-verdict .ensures)
+    (sym (asked .before .before .is-class-row .ensures) ∙ not-false _ (asked .before .if1 .left))
+    (c .before .row2 .given .1) (asked .membership .ensures)
 
 pub name-in-class-spec : {M : Type 1} → statement M
 name-in-class-spec =
@@ -77,6 +86,8 @@ name-in-class-spec =
     returns
     is-class-row-requires
     returns-2
-    in-class-requires
+    membership-requires
+    enum-known-row
+    enum-known-row-2
     returns-3
     returns-4)
