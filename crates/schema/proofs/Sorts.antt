@@ -1,5 +1,5 @@
--- In a table that keeps the rule of rows: a definition is a row of kind element, start is the last row, and a name
--- class of a row is a child.
+-- The kinds of name classes; in a table that keeps the rule of rows, that a definition is a row of kind element, start
+-- the last row, and a name class of a row a child.
 use mathlib.Core.Path.{_≡_}
 use mathlib.Core.Bool.{true, _&&_, false≢true, and-false}
 use mathlib.Core.List.{List}
@@ -8,7 +8,7 @@ use lib.Dec.{leb, eqb}
 use borrow.Author.Tests.{eq-eqb, eqb-true}
 use Rattle.tables.proofs.Booleans.{and-both, either}
 use Rattle.schema.specs.Kinds as kind
-use Rattle.schema.specs.Rows.{rowsOf, kindOf, aOf, bOf, shapeOf, sortOf, isElement, namesA}
+use Rattle.schema.specs.Rows.{rowsOf, kindOf, aOf, bOf, shapeOf, sortOf, isClass, isElement, namesA}
 use Rattle.schema.specs.RowRule.{fieldRight, sortRight, usesBefore, RowsRight}
 use Rattle.schema.specs.declared.Sort.{Sort}
 use Rattle.schema.specs.declared.Sort.the-variants.{Pattern, NameClass, Element, Start, Bad}
@@ -16,10 +16,16 @@ use Rattle.schema.specs.declared.Shape.{Shape}
 use Rattle.schema.specs.declared.Field.the-variants.{AClass}
 use Rattle.schema.proofs.Fields.{row-right, both-fields}
 
+pub data ClassKind (k : ℕ) : Type 0 where
+  any-name : k ≡ kind.anyName → ClassKind k
+  ns-name : k ≡ kind.nsName → ClassKind k
+  one-name : k ≡ kind.name → ClassKind k
+  name-choice : k ≡ kind.nameChoice → ClassKind k
+
 -- of some sorts there is one kind only
 data KindOf (k : ℕ) : Sort → Type 0 where
   of-pattern : KindOf k Pattern
-  of-class : KindOf k NameClass
+  of-class : ClassKind k → KindOf k NameClass
   of-element : k ≡ kind.element → KindOf k Element
   of-start : k ≡ kind.start → KindOf k Start
   of-bad : KindOf k Bad
@@ -35,10 +41,10 @@ kind-of k =
     either P (eqb k kind.ref) (λ e. of-pattern) (λ e₆.
     either P (eqb k kind.oneOrMore) (λ e. of-pattern) (λ e₇.
     either P (leb kind.choice k && leb k kind.interleave) (λ e. of-pattern) (λ e₈.
-    either P (eqb k kind.anyName) (λ e. of-class) (λ e₉.
-    either P (eqb k kind.nsName) (λ e. of-class) (λ e₁₀.
-    either P (eqb k kind.name) (λ e. of-class) (λ e₁₁.
-    either P (eqb k kind.nameChoice) (λ e. of-class) (λ e₁₂.
+    either P (eqb k kind.anyName) (λ e. of-class (any-name (eqb-true _ _ e))) (λ e₉.
+    either P (eqb k kind.nsName) (λ e. of-class (ns-name (eqb-true _ _ e))) (λ e₁₀.
+    either P (eqb k kind.name) (λ e. of-class (one-name (eqb-true _ _ e))) (λ e₁₁.
+    either P (eqb k kind.nameChoice) (λ e. of-class (name-choice (eqb-true _ _ e))) (λ e₁₂.
     either P (eqb k kind.element) (λ e. of-element (eqb-true _ _ e)) (λ e₁₃.
     either P (eqb k kind.start) (λ e. of-start (eqb-true _ _ e)) (λ e₁₄. of-bad))))))))))))))
   where
@@ -47,7 +53,7 @@ kind-of k =
 
 is-definition : {k : ℕ} {x : Sort} → KindOf k x → isElement x ≡ true → k ≡ kind.element
 is-definition of-pattern e = absurd (false≢true e)
-is-definition of-class e = absurd (false≢true e)
+is-definition (of-class c) e = absurd (false≢true e)
 is-definition (of-element f) e = f
 is-definition (of-start f) e = absurd (false≢true e)
 is-definition of-bad e = absurd (false≢true e)
@@ -55,10 +61,20 @@ is-definition of-bad e = absurd (false≢true e)
 pub definition-kind : (s : List ℕ) (d : ℕ) → isElement (sortOf s d) ≡ true → kindOf s d ≡ kind.element
 definition-kind s d e = is-definition (kind-of (kindOf s d)) e
 
+is-class : {k : ℕ} {x : Sort} → KindOf k x → isClass x ≡ true → ClassKind k
+is-class of-pattern e = absurd (false≢true e)
+is-class (of-class c) e = c
+is-class (of-element f) e = absurd (false≢true e)
+is-class (of-start f) e = absurd (false≢true e)
+is-class of-bad e = absurd (false≢true e)
+
+pub class-kind : (s : List ℕ) (c : ℕ) → isClass (sortOf s c) ≡ true → ClassKind (kindOf s c)
+class-kind s c e = is-class (kind-of (kindOf s c)) e
+
 -- the last row can only be start
 is-start : {k : ℕ} {x : Sort} (uses : ℕ) → KindOf k x → sortRight x uses true ≡ true → k ≡ kind.start
 is-start uses of-pattern e = absurd (false≢true (rw (and-false (eqb uses 1)) at e))
-is-start uses of-class e = absurd (false≢true (rw (and-false (eqb uses 1)) at e))
+is-start uses (of-class c) e = absurd (false≢true (rw (and-false (eqb uses 1)) at e))
 is-start uses (of-element f) e = absurd (false≢true e)
 is-start uses (of-start f) e = f
 is-start uses of-bad e = absurd (false≢true e)

@@ -1,3 +1,4 @@
+pub mod BelowNoExcept
 pub mod ClassRows
 pub mod Grid
 pub mod Holds

@@ -1,4 +1,4 @@
--- Which row of a class says that a name is in it, or that it is not (FORMAT, "Which row of a class").
+-- Which row of a class says that a name is in it, or that it is not (FORMAT, "Matching").
 use Prim.Native.Nat.{ℕ}
 use mathlib.Core.Path.{_≡_}
 use mathlib.Core.Bool.{Bool, true, false, _&&_}

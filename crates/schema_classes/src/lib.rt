@@ -1,10 +1,10 @@
-// Name classes: membership, and the least name that two classes have in common.
+// Name classes: membership with the row that says so, and the least name that two classes have in common.
 ghost use mathlib.Core.Path.{_≡_};
 ghost use Prim.Native.Nat.{_+_, _≤_, _<_};
 ghost use lib.ListN.{length};
 ghost use Rattle.tables.specs.Answers.{Decides};
-ghost use Rattle.schema.specs.RowRule.{maxRows};
 ghost use Rattle.schema.specs.Kinds as kind;
+ghost use Rattle.schema.specs.RowRule.{maxRows};
 ghost use Rattle.schema.specs.Rows.{rowsOf, kindOf};
 ghost use Rattle.schema_classes.specs.Membership.{inClass};
 ghost use Rattle.schema_classes.specs.WhichRow.{Judged};
