@@ -119,6 +119,7 @@ fn class_holds(schema: &[u32], row: u32, namespace: u32, local: u32) -> Member
 
 // What the class at a smaller row than its parent, an except or a member of a choice, says of a name. A field that is
 // no smaller row, as NO_ROW, holds none. Most classes are single names: these are judged here, without a call for each.
+// The answer of a call is made anew, so that the others need not pass through the memory that it comes in.
 fn smaller_holds(schema: &[u32], parent: u32, row: u32, namespace: u32, local: u32) -> Member
     requires { ⌜ 0 < local ⌝ }
     ensures { λ r. ⌜ JudgedBelow (now (schema .entry)) namespace local parent row r ⌝ }
@@ -129,7 +130,10 @@ fn smaller_holds(schema: &[u32], parent: u32, row: u32, namespace: u32, local: u
     if schema::kind(schema, row) == schema::NAME {
         return name_holds(schema, row, namespace, local);
     }
-    class_holds(schema, row, namespace, local)
+    match class_holds(schema, row, namespace, local) {
+        Member::Yes(by) => Member::Yes(by),
+        Member::No(by) => Member::No(by),
+    }
 }
 
 // Whether the class at a row holds a name, and which row says so. No class holds a name whose local is 0.

@@ -3,6 +3,7 @@
 use Prim.Native.Nat.{ℕ, _<_, _*_, _+_}
 use mathlib.Core.Path.{sym, _∙_}
 use native.Mathlib.Omega.{arith}
+use borrow.Author.Needs.{needs}
 use borrow.Fn.Kinds.{In}
 use borrow.Fn.PlainCycle.{Measures, is, falls, and}
 use Rattle.schema.proofs.field_a.Reads as field-a-reads
@@ -177,8 +178,23 @@ module _ (t : ℕ) where
   smaller-holds-class-holds-requires c κs =
       (omega arith, (c .before .before .before .before .pre .1, λ e. c .if2 .left (c .before .kind .ensures ∙ e)))
 
+  smaller-holds-enum-known-by : smaller-holds-lts.Need-enum-known-by
+      smaller-holds-calls smaller-holds-at smaller-holds.Post
+  smaller-holds-enum-known-by c = search needs
+
+  smaller-holds-enum-known-by-2 : smaller-holds-lts.Need-enum-known-by-2
+      smaller-holds-calls smaller-holds-at smaller-holds.Post
+  smaller-holds-enum-known-by-2 c = search needs
+
   smaller-holds-returns-3 : smaller-holds-lts.Need-returns-3 smaller-holds-calls smaller-holds-at smaller-holds.Post
-  smaller-holds-returns-3 c = smaller-judged _ _ _ (omega arith) (c .class-holds .ensures)
+  smaller-holds-returns-3 c =
+      smaller-judged _ _ _ (omega arith)
+      (rw (c .before .by .given .1) at (c .before .before .before .class-holds .ensures))
+
+  smaller-holds-returns-4 : smaller-holds-lts.Need-returns-4 smaller-holds-calls smaller-holds-at smaller-holds.Post
+  smaller-holds-returns-4 c =
+      smaller-judged _ _ _ (omega arith)
+      (rw (c .before .by2 .given .1) at (c .before .before .before .class-holds .ensures))
 
 pub +class-holds+smaller-holds-spec : {M : Type 1} → statement M
 +class-holds+smaller-holds-spec =
@@ -213,4 +229,7 @@ pub +class-holds+smaller-holds-spec : {M : Type 1} → statement M
     (smaller-holds-name-holds-requires t)
     (smaller-holds-returns-2 t)
     (smaller-holds-class-holds-requires t)
-    (smaller-holds-returns-3 t))
+    (smaller-holds-enum-known-by t)
+    (smaller-holds-enum-known-by-2 t)
+    (smaller-holds-returns-3 t)
+    (smaller-holds-returns-4 t))
