@@ -1,97 +1,157 @@
--- Lists of what the marked rows mention, and the numbers to try.
-use Prim.Native.Nat.{ℕ, _+_, _≤_, _<_}
-use mathlib.Core.Path.{_≡_, refl, sym, _∙_, subst}
+-- What a class mentions, by the kind of its row.
+use Prim.Native.Nat.{ℕ, _<_}
+use mathlib.Core.Path.{_≡_, refl, sym, _∙_, ap}
+use mathlib.Core.Bool.{true, _&&_, false≢true}
+use mathlib.Core.Logic.{_⊎_, inl, inr, ⊎-elim}
 use mathlib.Core.List.{List}
-use native.Mathlib.Decide.{decLt}
 use native.Mathlib.Omega.{arith}
-use lib.ListN.{length, set}
-use borrow.Author.Count.{below-more}
-use borrow.Author.Tests.{ne-eqb}
-use Rattle.schema.specs.Marks.{Marked}
-use Rattle.schema.proofs.Marks.{marked-row}
-use Rattle.schema_classes.specs.Search.{markedRows, mentionOf, leastOf, Among}
-use Rattle.schema_classes.specs.Search.{MentionAdded, Mentioned, Fresh, Stands, Candidates}
-use Rattle.schema_classes.specs.declared.Mention.the-variants.{Of, NoMention}
-use Rattle.schema_classes.specs.declared.NamePart.{NamePart}
-use Rattle.schema_classes.specs.declared.NamePart.the-variants.{Namespace, Local}
-use Rattle.schema_classes.proofs.Lists.{listed-dec, listed-kept, listed-last}
+use lib.Dec.{ltb}
+use Rattle.schema.specs.Kinds as kind
+use Rattle.schema.specs.Relations.{Child, by-a, by-b}
+use Rattle.schema.specs.Rows.{kindOf, shapeOf, sortOf, isClass, names}
+use Rattle.schema.proofs.Children.{child-less}
+use Rattle.schema.proofs.Sorts.{ClassKind, any-name, ns-name, one-name, name-choice, class-kind}
+use Rattle.schema_classes.specs.Made.{RowIn, itself, within}
+use Rattle.schema_classes.specs.Search.{NsNameMentions, NameMentions, RowMentions, by-nsName, by-name}
+use Rattle.schema_classes.specs.Search.{Mentions, MentionsBelow}
+use Rattle.schema_classes.specs.declared.Part.{Part}
+use Rattle.schema_classes.proofs.ClassRows.{child-a, child-b}
+use Rattle.schema_classes.proofs.Holds.{Read}
+use Rattle.schema_classes.proofs.Smallest.{Union}
 
-pub least-small : (part : NamePart) → leastOf part ≤ 1
-least-small Namespace = omega arith
-least-small Local = omega arith
+module _ (s : List ℕ) where
+  pub mention-class : {r v : ℕ} {part : Part} → RowMentions s part v r → isClass (sortOf s r) ≡ true
+  unfolding shapeOf
+  mention-class (by-nsName k m) = ap (λ (i : ℕ). isClass (shapeOf i .sort)) k
+  mention-class (by-name k m) = ap (λ (i : ℕ). isClass (shapeOf i .sort)) k
 
--- one row
-module _ (s m : List ℕ) (part : NamePart) (r : ℕ) (xs : List ℕ) (n : ℕ) where
-  pub adds-nothing : ((v : ℕ) → Marked m r → mentionOf s r part ≡ Of v → ⊥) → MentionAdded s m part r xs n xs n
-  adds-nothing h = record { most = omega arith; kept = λ v l. l; added = λ v k e. absurd (h v k e) }
+  -- a row that mentions something is in nothing but classes
+  class-above : {r c : ℕ} → RowIn s r c → isClass (sortOf s r) ≡ true → isClass (sortOf s c) ≡ true
+  class-above itself h = h
+  class-above (within k m i) h = k
 
-  pub silent : mentionOf s r part ≡ NoMention → MentionAdded s m part r xs n xs n
-  silent f = adds-nothing (λ v k e. never v (sym f ∙ e))
-    where
-      never : (v : ℕ) → NoMention ≡ Of v → ⊥
-      never v e = let z : _≡_ {A = ℕ} 0 1 = cc in omega arith
+  module _ (part : Part) where
+    -- through a child
+    through : {c m v : ℕ} → isClass (sortOf s c) ≡ true → Child s m c → Mentions s part m v → Mentions s part c v
+    through k h m = record { row = m .row; inside = within k h (m .inside); has = m .has }
 
-  pub listed-already : {x : ℕ} → mentionOf s r part ≡ Of x → Among xs n x → MentionAdded s m part r xs n xs n
-  listed-already {x} f l = record { most = omega arith; kept = λ v k. k; added = λ v k e. same v (sym f ∙ e) }
-    where
-      same : (v : ℕ) → Of x ≡ Of v → Among xs n v
-      same v e = let g : x ≡ v = cc in rw g at l
+    abbrev Own : ℕ → ℕ → Type 0
+    Own c v = RowMentions s part v c
 
-  pub adds : {x : ℕ} → mentionOf s r part ≡ Of x → n < length xs → MentionAdded s m part r xs n (set xs n x) (n + 1)
-  adds {x} f h = record { most = omega arith; kept = λ v l. listed-kept xs n x l; added = λ v k e. last v (sym f ∙ e) }
-    where
-      last : (v : ℕ) → Of x ≡ Of v → Among (set xs n x) (n + 1) v
-      last v e = let g : x ≡ v = cc in subst (λ (w : ℕ). Among (set xs n x) (n + 1) w) g (listed-last xs n x h)
+    own : {c v : ℕ} → Own c v → Mentions s part c v
+    own {c} m = record { row = c; inside = itself; has = m }
 
--- the rows before r
-pub record Mentioning (s m : List ℕ) (part : NamePart) (xs : List ℕ) (n r : ℕ) : Type 0 where
-  pub size : length xs ≡ markedRows + 1
-  pub most : n ≤ r
-  pub end : r ≤ markedRows
-  pub all : (q : ℕ) → q < r → (v : ℕ) → Marked m q → mentionOf s q part ≡ Of v → Among xs n v
+    -- a class mentions what its own row does, and what its children do
+    parts : {c v : ℕ} → Mentions s part c v → Own c v ⊎ ((m : ℕ) × Child s m c × Mentions s part m v)
+    parts {c} {v} m = go (m .inside) (m .has)
+      where
+        go : {r : ℕ} → RowIn s r c → RowMentions s part v r
+            → Own c v ⊎ ((m : ℕ) × Child s m c × Mentions s part m v)
+        go itself m = inl m
+        go {r} (within {m = m} k h i) n = inr (m, h, record { row = r; inside = i; has = n })
 
-module _ {s m : List ℕ} {part : NamePart} where
-  pub mentions-start : {xs : List ℕ} → length xs ≡ markedRows + 1 → Mentioning s m part xs 0 0
-  mentions-start {xs} e = record { size = e; most = omega arith; end = omega arith; all = λ q l. absurd (omega arith) }
+    -- the field x of a class, if it can name a class
+    module _ {c x : ℕ} (class : isClass (sortOf s c) ≡ true)
+        (child : x < c → isClass (sortOf s x) ≡ true → Child s x c) where
+      by-field : (v : ℕ) → MentionsBelow s part c x v → Mentions s part c v
+      by-field v (h, m) = through class (child h (class-above (m .inside) (mention-class (m .has)))) m
 
-  pub mentions-step : {xs xs′ : List ℕ} {n n′ r : ℕ} → Mentioning s m part xs n r → r < markedRows
-      → length xs′ ≡ length xs → MentionAdded s m part r xs n xs′ n′ → Mentioning s m part xs′ n′ (r + 1)
-  mentions-step {xs} {xs′} {n} {n′} {r} a h e b = record {
-    size = e ∙ a .size;
-    most = omega (arith, a .most, b .most);
-    end = omega arith;
-    all = below-more (λ q. (v : ℕ) → Marked m q → mentionOf s q part ≡ Of v → Among xs′ n′ v)
-        r (λ q l v k f. b .kept v (a .all q l v k f)) (b .added);
-  }
+    in-field : {c x m v : ℕ} → x ≡ m → Child s m c → Mentions s part m v → MentionsBelow s part c x v
+    in-field e h m = (rw e (child-less h), rw e m)
 
-  pub mentions-done : {xs : List ℕ} {n r : ℕ} → Mentioning s m part xs n r
-      → length m ≡ markedRows → markedRows ≤ r → Mentioned s m part xs n
-  mentions-done a e h = record {
-    most = omega (arith, a .most, a .end);
-    all = λ q v k f. a .all q (omega (arith, marked-row m q k)) v k f;
-  }
+    -- a class by its kind k and its fields a and b, as they are read
+    module _ {c k a b : ℕ} (read : Read s c k a b) where
+      class-row : (j : ℕ) → k ≡ j → isClass (shapeOf j .sort) ≡ true → isClass (sortOf s c) ≡ true
+      class-row j e y = ap (λ (i : ℕ). isClass (shapeOf i .sort)) (sym (read .kind) ∙ e) ∙ y
 
-  -- v stands for itself if it is listed; if not, the least number that is not listed stands for it, and neither is
-  -- mentioned
-  pub candidates : {xs : List ℕ} {n x : ℕ} → Mentioned s m part xs n → n < length xs
-      → Fresh xs n (leastOf part) x → Candidates s m part (set xs n x) (n + 1)
-  candidates {xs} {n} {x} a h f v low = go (listed-dec xs n v)
-    where
-      go : Dec (Among xs n v) → Stands s m part (set xs n x) (n + 1) v
-      go (yes l) =
-          record { by = v; listed = listed-kept xs n x l; low = low; most = omega arith; alike = λ r y k e. refl }
-      go (no l) = record {
-        by = x;
-        listed = listed-last xs n x h;
-        low = f .low;
-        most = below (decLt v x);
-        alike = λ r y k e.
-            ne-eqb v y (other v l (a .all r y k e)) ∙ sym (ne-eqb x y (other x (f .new) (a .all r y k e)));
+      no-own : ¬ (k ≡ kind.nsName) → ¬ (k ≡ kind.name) → {v : ℕ} → ¬ Own c v
+      no-own m n (by-nsName e x) = m (read .kind ∙ e)
+      no-own m n (by-name e x) = n (read .kind ∙ e)
+
+      any-child : k ≡ kind.anyName → {m : ℕ} → Child s m c → a ≡ m
+      unfolding shapeOf
+      any-child e (by-a h f) = read .first ∙ f
+      any-child e (by-b h f) = absurd (false≢true (rw (sym (read .kind) ∙ e) at h))
+
+      ns-child : k ≡ kind.nsName → {m : ℕ} → Child s m c → b ≡ m
+      unfolding shapeOf
+      ns-child e (by-a h f) = absurd (false≢true (rw (sym (read .kind) ∙ e) at h))
+      ns-child e (by-b h f) = read .second ∙ f
+
+      name-child : k ≡ kind.name → {m : ℕ} → ¬ Child s m c
+      unfolding shapeOf
+      name-child e (by-a h f) = false≢true (rw (sym (read .kind) ∙ e) at h)
+      name-child e (by-b h f) = false≢true (rw (sym (read .kind) ∙ e) at h)
+
+      -- a field of a kind j that can name a class
+      parent-a : (j : ℕ) → ((x : ℕ) → names s c (shapeOf j .a) x ≡ (ltb x c && isClass (sortOf s x))) → k ≡ j
+          → a < c → isClass (sortOf s a) ≡ true → Child s a c
+      parent-a j f e h i =
+          rw (read .first)
+          (child-a s c j f (sym (read .kind) ∙ e) (rw (← read .first) h) (rw (← read .first) i))
+
+      parent-b : (j : ℕ) → ((x : ℕ) → names s c (shapeOf j .b) x ≡ (ltb x c && isClass (sortOf s x))) → k ≡ j
+          → b < c → isClass (sortOf s b) ≡ true → Child s b c
+      parent-b j f e h i =
+          rw (read .second)
+          (child-b s c j f (sym (read .kind) ∙ e) (rw (← read .second) h) (rw (← read .second) i))
+
+      -- the except of an anyName
+      pub of-any : k ≡ kind.anyName → (v : ℕ) → MentionsBelow s part c a v → Mentions s part c v
+      unfolding shapeOf
+      of-any e = by-field (class-row kind.anyName e refl) (parent-a kind.anyName (λ x. refl) e)
+
+      pub any-of : k ≡ kind.anyName → (v : ℕ) → Mentions s part c v → MentionsBelow s part c a v
+      any-of e v m =
+          ⊎-elim (λ x. absurd (no-own (λ f. omega arith) (λ f. omega arith) x))
+          (λ (n, h, x). in-field (any-child e h) h x) (parts m)
+
+      -- the namespace and the except of an nsName
+      pub of-ns : k ≡ kind.nsName → Union (Mentions s part c) (NsNameMentions a part) (MentionsBelow s part c b)
+      unfolding shapeOf
+      of-ns e = record {
+        first = λ v m. own (by-nsName (sym (read .kind) ∙ e) (rw (← read .first) m));
+        second = by-field (class-row kind.nsName e refl) (parent-b kind.nsName (λ x. refl) e);
+        split = λ v m. ⊎-elim (λ x. inl (itself x)) (λ (n, h, x). inr (in-field (ns-child e h) h x)) (parts m);
       }
         where
-          below : Dec (v < x) → x ≤ v
-          below (yes k) = absurd (l (f .least v low k))
-          below (no k) = omega arith
+          itself : {v : ℕ} → Own c v → NsNameMentions a part v
+          itself (by-nsName f m) = rw (read .first) m
+          itself (by-name f m) = absurd (let g = read .kind ∙ f in omega arith)
 
-          other : (w : ℕ) → ¬ Among xs n w → {y : ℕ} → Among xs n y → w ≡ y → ⊥
-          other w n k e = n (rw (← e) at k)
+      pub of-name : k ≡ kind.name → (v : ℕ) → NameMentions a b part v → Mentions s part c v
+      of-name e v m = own (by-name (sym (read .kind) ∙ e) (rw (← read .first, ← read .second) m))
+
+      pub name-of : k ≡ kind.name → (v : ℕ) → Mentions s part c v → NameMentions a b part v
+      name-of e v m = ⊎-elim itself (λ (n, h, x). absurd (name-child e h)) (parts m)
+        where
+          itself : Own c v → NameMentions a b part v
+          itself (by-nsName f m) = absurd (let g = read .kind ∙ f in omega arith)
+          itself (by-name f m) = rw (read .first, read .second) m
+
+      -- the two members of a choice
+      pub of-choice : k ≡ kind.nameChoice
+          → Union (Mentions s part c) (MentionsBelow s part c a) (MentionsBelow s part c b)
+      unfolding shapeOf
+      of-choice e = record {
+        first = by-field (class-row kind.nameChoice e refl) (parent-a kind.nameChoice (λ x. refl) e);
+        second = by-field (class-row kind.nameChoice e refl) (parent-b kind.nameChoice (λ x. refl) e);
+        split = λ v m. ⊎-elim (λ x. absurd (no-own (λ f. omega arith) (λ f. omega arith) x))
+            (λ (n, h, x). member h x) (parts m);
+      }
+        where
+          member : {v n : ℕ} → Child s n c → Mentions s part n v
+              → MentionsBelow s part c a v ⊎ MentionsBelow s part c b v
+          member (by-a h f) m = inl (in-field (read .first ∙ f) (by-a h f) m)
+          member (by-b h f) m = inr (in-field (read .second ∙ f) (by-b h f) m)
+
+      -- a row that is no class
+      pub of-no-class : ¬ (k ≡ kind.anyName) → ¬ (k ≡ kind.nsName) → ¬ (k ≡ kind.name) → ¬ (k ≡ kind.nameChoice)
+          → (v : ℕ) → ¬ Mentions s part c v
+      of-no-class i j n o v m = go (class-kind s c (class-above (m .inside) (mention-class (m .has))))
+        where
+          go : ClassKind (kindOf s c) → ⊥
+          go (any-name e) = i (read .kind ∙ e)
+          go (ns-name e) = j (read .kind ∙ e)
+          go (one-name e) = n (read .kind ∙ e)
+          go (name-choice e) = o (read .kind ∙ e)

@@ -1,5 +1,6 @@
 pub mod Judging
 pub mod Least
+pub mod Made
 pub mod Membership
 pub mod Search
 pub mod WhichRow

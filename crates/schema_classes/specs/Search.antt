@@ -1,113 +1,73 @@
--- The search for the least common name: the rows of the two classes are marked, and only numbers that marked rows
--- mention, and the least that they do not, are tried.
-use Prim.Native.Nat.{ℕ, _+_, _≤_, _<_}
+-- The search for the least common name: the numbers to try are taken in rising order, each from what the two classes
+-- mention above the last.
+use Prim.Native.Nat.{ℕ, _≤_, _<_}
 use mathlib.Core.Path.{_≡_}
-use mathlib.Core.Bool.{Bool, true, false, cond}
+use mathlib.Core.Logic.{_⊎_}
 use mathlib.Core.List.{List}
-use lib.ListN.{getD}
-use lib.Dec.{eqb}
+use Rattle.tables.specs.Answers.{Clear}
 use Rattle.schema.specs.Kinds as kind
-use Rattle.schema.specs.Marks.{Marked}
-use Rattle.schema.specs.Relations.{Child}
-use Rattle.schema.specs.RowRule.{maxRows}
 use Rattle.schema.specs.Rows.{kindOf, aOf, bOf}
-use Rattle.schema_classes.specs.Least.{Common, NotAfter}
+use Rattle.schema_classes.specs.Least.{Common}
+use Rattle.schema_classes.specs.Made.{SomeRow, Mentioned, Fresh, KnownOrFresh}
 use Rattle.schema_classes.specs.declared.Found.{Found}
 use Rattle.schema_classes.specs.declared.Found.the-variants.{Name, Nothing}
-use Rattle.schema_classes.specs.declared.Mention.{Mention}
-use Rattle.schema_classes.specs.declared.Mention.the-variants.{Of, NoMention}
-use Rattle.schema_classes.specs.declared.NamePart.{NamePart}
-use Rattle.schema_classes.specs.declared.NamePart.the-variants.{Namespace, Local}
+use Rattle.schema_classes.specs.declared.Part.{Part}
+use Rattle.schema_classes.specs.declared.Part.the-variants.{Namespace, LocalBeside}
 
--- the rows of a table, and one that breaks off at its end
-abbrev pub markedRows : ℕ
-markedRows = maxRows + 1
+-- an nsName of the namespace u mentions u
+abbrev pub NsNameMentions : ℕ → Part → ℕ → Type 0
+NsNameMentions u Namespace v = u ≡ v
+NsNameMentions u (LocalBeside w) v = ⊥
 
--- each row that was marked still is, and each child of a marked row is marked
-pub record Closure (s m m′ : List ℕ) : Type 0 where
-  pub kept : (r : ℕ) → Marked m r → Marked m′ r
-  pub closed : (p r : ℕ) → Marked m′ p → Child s r p → Marked m′ r
+-- the name u, l mentions the namespace u, and beside it the local number l
+abbrev pub NameMentions : ℕ → ℕ → Part → ℕ → Type 0
+NameMentions u l Namespace v = u ≡ v
+NameMentions u l (LocalBeside w) v = (u ≡ w) × (l ≡ v)
 
--- the namespace or the local number that a row names
-abbrev pub mentionBy : NamePart → ℕ → ℕ → ℕ → Mention
-mentionBy Namespace k a b = cond (eqb k kind.nsName) (Of a) (cond (eqb k kind.name) (Of a) NoMention)
-mentionBy Local k a b = cond (eqb k kind.name) (Of b) NoMention
+pub data RowMentions (s : List ℕ) (part : Part) (v r : ℕ) : Type 0 where
+  by-nsName : kindOf s r ≡ kind.nsName → NsNameMentions (aOf s r) part v → RowMentions s part v r
+  by-name : kindOf s r ≡ kind.name → NameMentions (aOf s r) (bOf s r) part v → RowMentions s part v r
 
-abbrev pub mentionOf : List ℕ → ℕ → NamePart → Mention
-mentionOf s r part = mentionBy part (kindOf s r) (aOf s r) (bOf s r)
+-- what the class c mentions, and what it does in a field of p
+abbrev pub Mentions : List ℕ → Part → ℕ → ℕ → Type 0
+Mentions s part c v = SomeRow s c (RowMentions s part v)
+
+abbrev pub MentionsBelow : List ℕ → Part → ℕ → ℕ → ℕ → Type 0
+MentionsBelow s part p c v = (c < p) × Mentions s part c v
+
+-- what one of the classes c and d mentions
+abbrev pub OneMentions : List ℕ → ℕ → ℕ → Part → ℕ → Type 0
+OneMentions s c d part v = Mentioned s c d (RowMentions s part v)
+
+-- above every word of a table
+abbrev pub noNumber : ℕ
+noNumber = 4294967296
+
+-- r is the least number with P from a first one on, or the best so far where no such number is less
+pub record Lowered (P : ℕ → Type 0) (from best r : ℕ) : Type 0 where
+  pub fits : (v : ℕ) → P v → v < noNumber
+  pub lower : (v : ℕ) → from ≤ v → P v → r ≤ v
+  pub most : r ≤ best
+  pub is : (r ≡ best) ⊎ ((from ≤ r) × P r)
+
+abbrev pub NextNumber : (ℕ → Type 0) → ℕ → ℕ → Type 0
+NextNumber P from r = Lowered P from noNumber r
 
 -- namespaces count from 0, local numbers from 1
-abbrev pub leastOf : NamePart → ℕ
+abbrev pub leastOf : Part → ℕ
 leastOf Namespace = 0
-leastOf Local = 1
+leastOf (LocalBeside u) = 1
 
--- v is among the first n numbers of a list
-pub record Among (xs : List ℕ) (n v : ℕ) : Type 0 where
-  pub at : ℕ
-  pub before : at < n
-  pub is : getD xs at 0 ≡ v
+-- the fresh number, and that it and all others are words of a table
+pub record FreshNumber (P : ℕ → Type 0) (first r : ℕ) : Type 0 where
+  pub is : Fresh P first r
+  pub small : r < noNumber
+  pub fits : (v : ℕ) → P v → v < noNumber
 
--- what one more row adds to a list of mentions
-pub record MentionAdded (s m : List ℕ) (part : NamePart) (r : ℕ) (xs : List ℕ) (n : ℕ) (xs′ : List ℕ)
-    (n′ : ℕ) : Type 0 where
-  pub most : n′ ≤ n + 1
-  pub kept : (v : ℕ) → Among xs n v → Among xs′ n′ v
-  pub added : (v : ℕ) → Marked m r → mentionOf s r part ≡ Of v → Among xs′ n′ v
+abbrev pub ToTry : List ℕ → ℕ → ℕ → Part → ℕ → Type 0
+ToTry s c d part = KnownOrFresh (OneMentions s c d part) (leastOf part)
 
--- the first n numbers of a list are all that the marked rows mention
-pub record Mentioned (s m : List ℕ) (part : NamePart) (xs : List ℕ) (n : ℕ) : Type 0 where
-  pub most : n ≤ markedRows
-  pub all : (r v : ℕ) → Marked m r → mentionOf s r part ≡ Of v → Among xs n v
-
--- the least number from a first one on that is not listed
-pub record Fresh (xs : List ℕ) (n from x : ℕ) : Type 0 where
-  pub low : from ≤ x
-  pub new : ¬ Among xs n x
-  pub least : (v : ℕ) → from ≤ v → v < x → Among xs n v
-
--- a listed number that is not above v, and that no marked row tells from v
-pub record Stands (s m : List ℕ) (part : NamePart) (xs : List ℕ) (n v : ℕ) : Type 0 where
-  pub by : ℕ
-  pub listed : Among xs n by
-  pub low : leastOf part ≤ by
-  pub most : by ≤ v
-  pub alike : (r x : ℕ) → Marked m r → mentionOf s r part ≡ Of x → eqb v x ≡ eqb by x
-
-abbrev pub Candidates : List ℕ → List ℕ → NamePart → List ℕ → ℕ → Type 0
-Candidates s m part xs n = (v : ℕ) → leastOf part ≤ v → Stands s m part xs n v
-
--- what is found is not after the name u, l
-abbrev pub Covers : Found → ℕ → ℕ → Type 0
-Covers (Name v k) u l = NotAfter v k u l
-Covers Nothing u l = ⊥
-
--- what is found is a common name
-abbrev pub Sound : List ℕ → ℕ → ℕ → Found → Type 0
-Sound s c d (Name u l) = Common s c d u l
-Sound s c d Nothing = Unit {0}
-
--- the name u, l is tried: if it is common, what is found is not after it
-abbrev pub Tried : List ℕ → ℕ → ℕ → Found → ℕ → ℕ → Type 0
-Tried s c d r u l = Common s c d u l → Covers r u l
-
--- whether the name u, l is before what was found
-pub record Earlier (u l : ℕ) (best : Found) (r : Bool) : Type 0 where
-  pub yes : r ≡ true → (v k : ℕ) → Covers best v k → NotAfter u l v k
-  pub no : r ≡ false → Covers best u l
-
--- what is found next is no worse
-pub record Better (s : List ℕ) (c d : ℕ) (best r : Found) : Type 0 where
-  pub sound : Sound s c d best → Sound s c d r
-  pub covers : (v k : ℕ) → Covers best v k → Covers r v k
-
-pub record TriedName (s : List ℕ) (c d u l : ℕ) (best r : Found) : Type 0 where
-  pub better : Better s c d best r
-  pub tried : Tried s c d r u l
-
-pub record TriedLocals (s : List ℕ) (c d u : ℕ) (ls : List ℕ) (n : ℕ) (best r : Found) : Type 0 where
-  pub better : Better s c d best r
-  pub tried : (l : ℕ) → Among ls n l → Tried s c d r u l
-
-pub record TriedAll (s : List ℕ) (c d : ℕ) (us : List ℕ) (m : ℕ) (ls : List ℕ) (n : ℕ) (r : Found) : Type 0 where
-  pub sound : Sound s c d r
-  pub tried : (u l : ℕ) → Among us m u → Among ls n l → Tried s c d r u l
+-- the least common name of the namespace u
+abbrev pub LeastBeside : List ℕ → ℕ → ℕ → ℕ → Found → Type 0
+LeastBeside s c d u (Name v l) = (v ≡ u) × Common s c d u l × Clear (Common s c d u) l
+LeastBeside s c d u Nothing = (l : ℕ) → ¬ Common s c d u l

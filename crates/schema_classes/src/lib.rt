@@ -1,7 +1,6 @@
 // Name classes: membership with the row that says so, and the least name that two classes have in common.
 ghost use mathlib.Core.Path.{_≡_};
-ghost use Prim.Native.Nat.{_+_, _≤_, _<_};
-ghost use lib.ListN.{length};
+ghost use Prim.Native.Nat.{_≤_, _<_};
 ghost use Rattle.tables.specs.Answers.{Decides};
 ghost use Rattle.schema.specs.Kinds as kind;
 ghost use Rattle.schema.specs.RowRule.{maxRows};
@@ -9,10 +8,9 @@ ghost use Rattle.schema.specs.Rows.{rowsOf, kindOf};
 ghost use Rattle.schema_classes.specs.Membership.{inClass};
 ghost use Rattle.schema_classes.specs.WhichRow.{Judged};
 ghost use Rattle.schema_classes.specs.Judging.{smallerOf, unlessExcepted, choiceOf, JudgedBelow};
-ghost use Rattle.schema_classes.specs.Least.{LeastCommon};
-ghost use Rattle.schema_classes.specs.Search.{markedRows, Closure, mentionOf, leastOf, Among};
-ghost use Rattle.schema_classes.specs.Search.{MentionAdded, Mentioned, Fresh, Candidates};
-ghost use Rattle.schema_classes.specs.Search.{Earlier, TriedName, TriedLocals, TriedAll};
+ghost use Rattle.schema_classes.specs.Least.{Common, LeastCommon};
+ghost use Rattle.schema_classes.specs.Search.{NsNameMentions, NameMentions, Mentions, MentionsBelow, OneMentions};
+ghost use Rattle.schema_classes.specs.Search.{Lowered, NextNumber, leastOf, FreshNumber, ToTry, LeastBeside};
 
 // Whether a name is in a class, and the row that says so: for yes the smallest that takes the name in, for no the
 // smallest except class that shuts it out, or NO_ROW where none does.
@@ -27,23 +25,14 @@ pub enum Found {
     Nothing,
 }
 
-// The two parts of a name.
-enum NamePart {
+// A part of a name: the namespace, or the local number beside a namespace.
+enum Part {
     Namespace,
-    Local,
+    LocalBeside(u32),
 }
 
-// A number that a row names, or none.
-enum Mention {
-    Of(u32),
-    NoMention,
-}
-
-// Rows of a table that can be a class: one that breaks off at its end is another.
-const MARKED_ROWS: u32 = schema::MAX_ROWS as u32 + 1;
-
-// Numbers to try: one for each of these rows, and one that none of them mentions.
-const MAX_CANDIDATES: usize = MARKED_ROWS as usize + 1;
+// Above every number of a name: none.
+const NO_NUMBER: u64 = 4294967296;
 
 fn smaller_of(first: u32, second: u32) -> u32
     ensures { λ r. ⌜ r ≡ smallerOf first second ⌝ }
@@ -159,237 +148,197 @@ pub fn in_class(schema: &[u32], row: u32, namespace: u32, local: u32) -> bool
     }
 }
 
-// Marks every row below a marked one.
-fn mark_below(schema: &[u32], marks: &mut [u32])
-    requires { ⌜ length (now marks) ≡ markedRows ⌝ }
-    ensures { λ _. ⌜ Closure (now (schema .entry)) (now (marks .entry)) (now (marks .exit)) ⌝ }
+// The number, where it is from `from` on and less than the best so far; else the best.
+fn nearer(number: u32, from: u64, best: u64) -> u64
+    ensures { λ r. ⌜ Lowered (λ v. number ≡ v) from best r ⌝ }
 {
-    let mut row = MARKED_ROWS;
-    while 0 < row {
-        row -= 1;
-        let on = tables::word(marks, row as usize) == 1;
-        schema::mark_children(schema, marks, row, on, on);
+    let wide = number as u64;
+    if wide < from {
+        return best;
     }
+    if wide < best { wide } else { best }
 }
 
-// The number that a row names as a part.
-fn mention_of(schema: &[u32], row: u32, part: NamePart) -> Mention
-    ensures { λ r. ⌜ r ≡ mentionOf (now (schema .entry)) row part ⌝ }
+// What an nsName of a namespace mentions.
+fn namespace_mention(namespace: u32, part: Part, from: u64, best: u64) -> u64
+    ensures { λ r. ⌜ Lowered (NsNameMentions namespace part) from best r ⌝ }
 {
-    let kind = schema::kind(schema, row);
     match part {
-        NamePart::Namespace => {
-            if kind == schema::NS_NAME {
-                return Mention::Of(schema::field_a(schema, row));
+        Part::Namespace => nearer(namespace, from, best),
+        Part::LocalBeside(_) => best,
+    }
+}
+
+// What a name mentions.
+fn name_mention(namespace: u32, local: u32, part: Part, from: u64, best: u64) -> u64
+    ensures { λ r. ⌜ Lowered (NameMentions namespace local part) from best r ⌝ }
+{
+    match part {
+        Part::Namespace => nearer(namespace, from, best),
+        Part::LocalBeside(beside) => {
+            if namespace == beside {
+                nearer(local, from, best)
+            } else {
+                best
             }
-            if kind == schema::NAME {
-                return Mention::Of(schema::field_a(schema, row));
-            }
-            Mention::NoMention
-        }
-        NamePart::Local => {
-            if kind == schema::NAME {
-                return Mention::Of(schema::field_b(schema, row));
-            }
-            Mention::NoMention
         }
     }
 }
 
-// Whether a number is among the first `count` of a list.
-fn is_listed(list: &[u32], count: usize, number: u32) -> bool
-    ensures { λ r. ⌜ Decides (Among (now (list .entry)) count number) r ⌝ }
+// The least number from `from` on that the class at a row mentions, its excepts too, where it is less than the best so
+// far; else the best.
+fn mention(schema: &[u32], row: u32, part: Part, from: u64, best: u64) -> u64
+    ensures { λ r. ⌜ Lowered (Mentions (now (schema .entry)) part row) from best r ⌝ }
 {
-    let mut i = 0;
-    while i < count {
-        if tables::word(list, i) == number {
-            return true;
+    let a = schema::field_a(schema, row);
+    let b = schema::field_b(schema, row);
+    match schema::kind(schema, row) {
+        schema::ANY_NAME => smaller_mention(schema, row, a, part, from, best),
+        schema::NS_NAME => {
+            let own = namespace_mention(a, part, from, best);
+            smaller_mention(schema, row, b, part, from, own)
         }
-        i += 1;
+        schema::NAME => name_mention(a, b, part, from, best),
+        schema::NAME_CHOICE => {
+            let left = smaller_mention(schema, row, a, part, from, best);
+            smaller_mention(schema, row, b, part, from, left)
+        }
+        _ => best,
     }
-    false
 }
 
-// Adds what a marked row mentions to a list of `count` numbers, unless it is there, and answers their new count.
-fn add_mention(
-    schema: &[u32],
-    marks: &[u32],
-    part: NamePart,
-    row: u32,
-    list: &mut [u32],
-    count: usize,
-) -> usize
-    requires { ⌜ count < length (now list) ⌝ }
-    ensures { λ r. ⌜ MentionAdded (now (schema .entry)) (now (marks .entry)) part row (now (list .entry)) count (now (list .exit)) r ⌝ }
+// The same of a class in a field of its parent. A field that is no smaller row, as NO_ROW, mentions nothing.
+fn smaller_mention(schema: &[u32], parent: u32, row: u32, part: Part, from: u64, best: u64) -> u64
+    ensures { λ r. ⌜ Lowered (MentionsBelow (now (schema .entry)) part parent row) from best r ⌝ }
 {
-    if tables::word(marks, row as usize) != 1 {
-        return count;
+    if row < parent {
+        mention(schema, row, part, from, best)
+    } else {
+        best
     }
-    let Mention::Of(number) = mention_of(schema, row, part) else {
-        return count;
-    };
-    if is_listed(list, count, number) {
-        return count;
-    }
-    list[count] = number;
-    count + 1
 }
 
-// Lists what the marked rows mention, and answers how many numbers these are.
-fn list_mentions(schema: &[u32], marks: &[u32], part: NamePart, list: &mut [u32]) -> usize
-    requires { ⌜ (length (now marks) ≡ markedRows) × (length (now list) ≡ markedRows + 1) ⌝ }
-    ensures { λ r. ⌜ Mentioned (now (schema .entry)) (now (marks .entry)) part (now (list .exit)) r ⌝ }
+// The least number from `from` on that one of two classes mentions, or NO_NUMBER.
+fn next_mention(schema: &[u32], first: u32, second: u32, part: Part, from: u64) -> u64
+    ensures { λ r. ⌜ NextNumber (OneMentions (now (schema .entry)) first second part) from r ⌝ }
 {
-    let mut count = 0;
-    let mut row = 0;
-    while row < MARKED_ROWS {
-        count = add_mention(schema, marks, part, row, list, count);
-        row += 1;
-    }
-    count
+    let best = mention(schema, first, part, from, NO_NUMBER);
+    mention(schema, second, part, from, best)
 }
 
-// The least number from `first` on that is not among the first `count` of a list.
-fn fresh(list: &[u32], count: usize, first: u32) -> u32
-    requires { ⌜ (count ≤ markedRows) × (first ≤ 1) ⌝ }
-    ensures { λ r. ⌜ Fresh (now (list .entry)) count first r ⌝ }
+// Namespaces count from 0, local numbers from 1.
+fn least_of(part: Part) -> u64
+    ensures { λ r. ⌜ r ≡ leastOf part ⌝ }
 {
-    let mut number = first;
-    while is_listed(list, count, number) {
+    match part {
+        Part::Namespace => 0,
+        Part::LocalBeside(_) => 1,
+    }
+}
+
+// The least number that neither class mentions.
+fn fresh(schema: &[u32], first: u32, second: u32, part: Part) -> u64
+    requires { ⌜ rowsOf (now schema) ≤ maxRows ⌝ }
+    ensures { λ r. ⌜ FreshNumber (OneMentions (now (schema .entry)) first second part) (leastOf part) r ⌝ }
+{
+    let mut number = least_of(part);
+    while next_mention(schema, first, second, part, number) == number {
         number += 1;
     }
     number
 }
 
-fn least_of(part: NamePart) -> u32
-    ensures { λ r. ⌜ r ≡ leastOf part ⌝ }
+// The next number to try from `from` on, or NO_NUMBER: each up to the fresh one, since those before it are all
+// mentioned, and above it those that are mentioned.
+fn next_number(schema: &[u32], first: u32, second: u32, part: Part, fresh: u64, from: u64) -> u64
+    requires { ⌜ FreshNumber (OneMentions (now schema) first second part) (leastOf part) fresh × (leastOf part ≤ from) ⌝ }
+    ensures { λ r. ⌜ NextNumber (ToTry (now (schema .entry)) first second part) from r ⌝ }
 {
-    match part {
-        NamePart::Namespace => 0,
-        NamePart::Local => 1,
+    if from <= fresh {
+        from
+    } else {
+        next_mention(schema, first, second, part, from)
     }
 }
 
-// Lists the numbers to try: what the marked rows mention, and the least number that they do not. Answers how many these
-// are.
-fn list_candidates(schema: &[u32], marks: &[u32], part: NamePart, list: &mut [u32]) -> usize
-    requires { ⌜ (length (now marks) ≡ markedRows) × (length (now list) ≡ markedRows + 1) ⌝ }
-    ensures { λ r. ⌜ Candidates (now (schema .entry)) (now (marks .entry)) part (now (list .exit)) r ⌝ }
+fn both_hold(schema: &[u32], first: u32, second: u32, namespace: u32, local: u32) -> bool
+    ensures { λ r. ⌜ Decides (Common (now (schema .entry)) first second namespace local) r ⌝ }
 {
-    let count = list_mentions(schema, marks, part, list);
-    let number = fresh(list, count, least_of(part));
-    list[count] = number;
-    count + 1
+    if in_class(schema, first, namespace, local) {
+        in_class(schema, second, namespace, local)
+    } else {
+        false
+    }
 }
 
-// Whether a name is before what was found so far.
-fn is_earlier(namespace: u32, local: u32, best: Found) -> bool
-    ensures { λ r. ⌜ Earlier namespace local best r ⌝ }
+// The least name of a namespace that both classes hold. Only the names of that namespace tell its local numbers apart:
+// those that they mention are tried, and the least that they do not.
+fn try_namespace(schema: &[u32], first: u32, second: u32, namespace: u32) -> Found
+    requires { ⌜ rowsOf (now schema) ≤ maxRows ⌝ }
+    ensures { λ r. ⌜ LeastBeside (now (schema .entry)) first second namespace r ⌝ }
 {
-    match best {
-        Found::Name(u, l) => {
-            if namespace < u {
-                return true;
-            }
-            if namespace == u { local < l } else { false }
+    let part = Part::LocalBeside(namespace);
+    let fresh = fresh(schema, first, second, part);
+    let mut local = least_of(part);
+    while local < NO_NUMBER {
+        if both_hold(schema, first, second, namespace, local as u32) {
+            return Found::Name(namespace, local as u32);
         }
-        Found::Nothing => true,
+        local = next_number(schema, first, second, part, fresh, local + 1);
     }
+    Found::Nothing
 }
 
-// The name, if it is in both classes and before what was found so far.
-fn try_name(
-    schema: &[u32],
-    first: u32,
-    second: u32,
-    namespace: u32,
-    local: u32,
-    best: Found,
-) -> Found
-    ensures { λ r. ⌜ TriedName (now (schema .entry)) first second namespace local best r ⌝ }
+// The least name that both classes hold, tried namespace by namespace.
+fn try_namespaces(schema: &[u32], first: u32, second: u32) -> Found
+    requires { ⌜ rowsOf (now schema) ≤ maxRows ⌝ }
+    ensures { λ r. ⌜ LeastCommon (now (schema .entry)) first second r ⌝ }
 {
-    if !is_earlier(namespace, local, best) {
-        return best;
+    let part = Part::Namespace;
+    let fresh = fresh(schema, first, second, part);
+    let mut namespace = least_of(part);
+    while namespace < NO_NUMBER {
+        let found = try_namespace(schema, first, second, namespace as u32);
+        let Found::Nothing = found else {
+            return found;
+        };
+        namespace = next_number(schema, first, second, part, fresh, namespace + 1);
     }
-    if !in_class(schema, first, namespace, local) {
-        return best;
-    }
-    if !in_class(schema, second, namespace, local) {
-        return best;
-    }
-    Found::Name(namespace, local)
+    Found::Nothing
 }
 
-// Tries a namespace with each listed local number.
-fn try_locals(
-    schema: &[u32],
-    first: u32,
-    second: u32,
-    namespace: u32,
-    locals: &[u32],
-    count: usize,
-    best: Found,
-) -> Found
-    ensures { λ r. ⌜ TriedLocals (now (schema .entry)) first second namespace (now (locals .entry)) count best r ⌝ }
+// The name at a row, if the class at another holds it.
+fn try_name(schema: &[u32], row: u32, class: u32) -> Found
+    requires { ⌜ kindOf (now schema) row ≡ kind.name ⌝ }
+    ensures { λ r. ⌜ LeastCommon (now (schema .entry)) row class r ⌝ }
 {
-    let mut found = best;
-    let mut i = 0;
-    while i < count {
-        found = try_name(
-            schema,
-            first,
-            second,
-            namespace,
-            tables::word(locals, i),
-            found,
-        );
-        i += 1;
+    let namespace = schema::field_a(schema, row);
+    let local = schema::field_b(schema, row);
+    if in_class(schema, class, namespace, local) {
+        Found::Name(namespace, local)
+    } else {
+        Found::Nothing
     }
-    found
-}
-
-// Tries each listed namespace with each listed local number.
-fn try_names(
-    schema: &[u32],
-    first: u32,
-    second: u32,
-    namespaces: &[u32],
-    n: usize,
-    locals: &[u32],
-    k: usize,
-) -> Found
-    ensures { λ r. ⌜ TriedAll (now (schema .entry)) first second (now (namespaces .entry)) n (now (locals .entry)) k r ⌝ }
-{
-    let mut found = Found::Nothing;
-    let mut i = 0;
-    while i < n {
-        found = try_locals(
-            schema,
-            first,
-            second,
-            tables::word(namespaces, i),
-            locals,
-            k,
-            found,
-        );
-        i += 1;
-    }
-    found
 }
 
 // The least name that the classes at two rows both hold, over all numbers as namespaces and all from 1 on as locals, or
-// nothing where there is none. The caller shows that there are at most 512 rows.
+// nothing where there is none. A name holds itself alone, and an nsName names of its namespace alone. The caller shows
+// that there are at most 512 rows.
 pub fn least_common(schema: &[u32], first: u32, second: u32) -> Found
     requires { ⌜ rowsOf (now schema) ≤ maxRows ⌝ }
     ensures { λ r. ⌜ LeastCommon (now (schema .entry)) first second r ⌝ }
 {
-    let mut marks = [0u32; MARKED_ROWS as usize];
-    tables::put_u32(&mut marks, first as usize, 1);
-    tables::put_u32(&mut marks, second as usize, 1);
-    mark_below(schema, &mut marks);
-    let mut namespaces = [0u32; MAX_CANDIDATES];
-    let n = list_candidates(schema, &marks, NamePart::Namespace, &mut namespaces);
-    let mut locals = [0u32; MAX_CANDIDATES];
-    let k = list_candidates(schema, &marks, NamePart::Local, &mut locals);
-    try_names(schema, first, second, &namespaces, n, &locals, k)
+    if schema::kind(schema, first) == schema::NAME {
+        return try_name(schema, first, second);
+    }
+    if schema::kind(schema, second) == schema::NAME {
+        return try_name(schema, second, first);
+    }
+    if schema::kind(schema, first) == schema::NS_NAME {
+        return try_namespace(schema, first, second, schema::field_a(schema, first));
+    }
+    if schema::kind(schema, second) == schema::NS_NAME {
+        return try_namespace(schema, first, second, schema::field_a(schema, second));
+    }
+    try_namespaces(schema, first, second)
 }

@@ -1,89 +1,89 @@
--- The two rows are marked and with them all rows of both classes, so that each common name has one on the grid that is
--- not after it.
-use Prim.Native.Nat.{ℕ}
-use lib.ListN.{replicate, length-replicate}
-use Rattle.schema_classes.specs.Search.{markedRows}
-use Rattle.schema_classes.proofs.Marks.{two-marked}
-use Rattle.schema_classes.proofs.Grid.{least-on-grid}
+-- A name holds itself alone, an nsName only names of its namespace; which class comes first is no matter.
+use mathlib.Core.Path.{sym, _∙_}
 use borrow.Author.Needs.{needs}
+use Rattle.schema_classes.proofs.LeastNames.{swap-least, ns-namespace, one-least}
 use Rattle.schema_classes.proofs.least_common.Statement.{statement}
 use Rattle.schema_classes.proofs.least_common.Tie as tie
 
-slice-aggregate-put-u32 : tie.Need-slice-aggregate-put-u32
-slice-aggregate-put-u32 c = search needs
+kind-requires : tie.Need-kind-requires
+kind-requires c κs = search needs
 
-put-u32-requires : tie.Need-put-u32-requires
-put-u32-requires c κs = search needs
-
-slice-aggregate-put-u32-2 : tie.Need-slice-aggregate-put-u32-2
-slice-aggregate-put-u32-2 c = search needs
-
-put-u32-requires-2 : tie.Need-put-u32-requires-2
-put-u32-requires-2 c κs = search needs
-
-slice-aggregate-mark-below : tie.Need-slice-aggregate-mark-below
-slice-aggregate-mark-below c = search needs
-
-mark-below-requires : tie.Need-mark-below-requires
-mark-below-requires c κs = search needs
-
-slice-aggregate-list-candidates : tie.Need-slice-aggregate-list-candidates
-slice-aggregate-list-candidates c = search needs
-
-slice-aggregate-list-candidates-2 : tie.Need-slice-aggregate-list-candidates-2
-slice-aggregate-list-candidates-2 c = search needs
-
-list-candidates-requires : tie.Need-list-candidates-requires
-list-candidates-requires c κs = search needs
-
-slice-aggregate-list-candidates-3 : tie.Need-slice-aggregate-list-candidates-3
-slice-aggregate-list-candidates-3 c = search needs
-
-slice-aggregate-list-candidates-4 : tie.Need-slice-aggregate-list-candidates-4
-slice-aggregate-list-candidates-4 c = search needs
-
-list-candidates-requires-2 : tie.Need-list-candidates-requires-2
-list-candidates-requires-2 c κs = search needs
-
-slice-aggregate-try-names : tie.Need-slice-aggregate-try-names
-slice-aggregate-try-names c = search needs
-
-slice-aggregate-try-names-2 : tie.Need-slice-aggregate-try-names-2
-slice-aggregate-try-names-2 c = search needs
-
-try-names-requires : tie.Need-try-names-requires
-try-names-requires c κs = search needs
+try-name-requires : tie.Need-try-name-requires
+try-name-requires c κs = search needs
 
 returns : tie.Need-returns
-returns c =
-    let c₁ = c .before .before .before .before .before .before .before .before .before .before .before .before in
-    let c₂ = c₁ .before .before .before .before .before .before in
-    let args = c₂ .before .before .before .args in
-    let close = c₁ .mark-below .ensures in
-    let marked = two-marked (replicate markedRows 0) (args .first) (args .second) (length-replicate {A = ℕ}
-    markedRows 0) (c₂ .put-u32 .ensures) (c₁ .before .before .before .put-u322 .ensures) close in
-    least-on-grid _ _ _ _ _ _ _ _ (c₂ .before .before .before .pre)
-    (search needs) (close .closed) (marked .0) (marked .1)
-    (c .before .before .before .before .before .before .before .before .list-candidates .ensures)
-    (c .before .before .before .before .list-candidates2 .ensures) (c .try-names .ensures)
+returns c = search needs
+
+kind-requires-2 : tie.Need-kind-requires-2
+kind-requires-2 c κs = search needs
+
+try-name-requires-2 : tie.Need-try-name-requires-2
+try-name-requires-2 c κs = search needs
+
+returns-2 : tie.Need-returns-2
+returns-2 c =
+    let a = c .before .before .before .before .before .before .args in
+    swap-least (a .schema .now) (a .second) (a .first) (c .try-name2 .result) (c .try-name2 .ensures)
+
+kind-requires-3 : tie.Need-kind-requires-3
+kind-requires-3 c κs = search needs
+
+field-a-requires : tie.Need-field-a-requires
+field-a-requires c κs = search needs
+
+try-namespace-requires : tie.Need-try-namespace-requires
+try-namespace-requires c κs = search needs
+
+returns-3 : tie.Need-returns-3
+returns-3 c =
+    let entry = c .before .before .before .before .before .before .before .before .before in
+    let a = entry .args in
+    one-least (a .schema .now) (a .first) (a .second) (c .before .field-a .result)
+    (λ u l h. ns-namespace (a .schema .now) (a .first) (entry .pre) (c .before .field-a .ensures)
+    (sym (c .before .before .before .kind3 .ensures) ∙ c .before .before .if3 .taken) u l (h .first))
+    (c .try-namespace .result) (c .try-namespace .ensures)
+
+kind-requires-4 : tie.Need-kind-requires-4
+kind-requires-4 c κs = search needs
+
+field-a-requires-2 : tie.Need-field-a-requires-2
+field-a-requires-2 c κs = search needs
+
+try-namespace-requires-2 : tie.Need-try-namespace-requires-2
+try-namespace-requires-2 c κs = search needs
+
+returns-4 : tie.Need-returns-4
+returns-4 c =
+    let entry = c .before .before .before .before .before .before .before .before .before .before .before in
+    let a = entry .args in
+    one-least (a .schema .now) (a .first) (a .second) (c .before .field-a2 .result)
+    (λ u l h. ns-namespace (a .schema .now) (a .second) (entry .pre) (c .before .field-a2 .ensures)
+    (sym (c .before .before .before .kind4 .ensures) ∙ c .before .before .if4 .taken) u l (h .second))
+    (c .try-namespace2 .result) (c .try-namespace2 .ensures)
+
+try-namespaces-requires : tie.Need-try-namespaces-requires
+try-namespaces-requires c κs = search needs
+
+returns-5 : tie.Need-returns-5
+returns-5 c = search needs
 
 pub least-common-spec : {M : Type 1} → statement M
 least-common-spec =
     tie.close
     (tie.spec
-    slice-aggregate-put-u32
-    put-u32-requires
-    slice-aggregate-put-u32-2
-    put-u32-requires-2
-    slice-aggregate-mark-below
-    mark-below-requires
-    slice-aggregate-list-candidates
-    slice-aggregate-list-candidates-2
-    list-candidates-requires
-    slice-aggregate-list-candidates-3
-    slice-aggregate-list-candidates-4
-    list-candidates-requires-2
-    slice-aggregate-try-names
-    slice-aggregate-try-names-2
-    try-names-requires
-    returns)
+    kind-requires
+    try-name-requires
+    returns
+    kind-requires-2
+    try-name-requires-2
+    returns-2
+    kind-requires-3
+    field-a-requires
+    try-namespace-requires
+    returns-3
+    kind-requires-4
+    field-a-requires-2
+    try-namespace-requires-2
+    returns-4
+    try-namespaces-requires
+    returns-5)

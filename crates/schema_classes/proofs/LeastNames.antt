@@ -1,0 +1,112 @@
+-- The least common name: of a name and a class, of an nsName and a class, and of two classes, namespace by namespace.
+use Prim.Native.Nat.{ℕ, _≤_, _<_}
+use mathlib.Core.Path.{_≡_, refl, sym, _∙_}
+use mathlib.Core.Bool.{Bool, true, false, not, _&&_, false≢true}
+use mathlib.Core.Logic.{inl, inr}
+use mathlib.Core.List.{List}
+use native.Mathlib.Decide.{decLt, ℕ-discrete}
+use native.Mathlib.Omega.{arith}
+use lib.Dec.{ltb, eqb}
+use borrow.Author.Tests.{eqb-true, eq-eqb}
+use Rattle.tables.specs.Answers.{Decides}
+use Rattle.tables.proofs.Booleans.{and-both, both-and}
+use Rattle.schema.specs.Falling.{upto}
+use Rattle.schema.specs.Kinds as kind
+use Rattle.schema.specs.RowRule.{maxRows}
+use Rattle.schema.specs.Rows.{rowsOf, kindOf, aOf, bOf}
+use Rattle.schema_classes.specs.Membership.{holds, inClass}
+use Rattle.schema_classes.specs.Least.{Common, NotAfter, LeastCommon}
+use Rattle.schema_classes.specs.Search.{OneMentions, LeastBeside}
+use Rattle.schema_classes.specs.declared.Found.{Found}
+use Rattle.schema_classes.specs.declared.Found.the-variants.{Name, Nothing}
+use Rattle.schema_classes.specs.declared.Part.the-variants.{Namespace}
+use Rattle.schema_classes.proofs.ClassRows.{class-held}
+use Rattle.schema_classes.proofs.Holds.{step, Read, holds-name, holds-nsName}
+use Rattle.schema_classes.proofs.CommonNames.{common-positive, namespace-stands}
+use Rattle.schema_classes.proofs.Searching.{Passed, passed-clear}
+use Rattle.schema_classes.proofs.SmallModel.{class-low}
+
+-- a name is common where the second class has it too
+module _ (s : List ℕ) (c d u l : ℕ) where
+  pub common-decided : inClass s u l c ≡ true → (t : Bool) → t ≡ inClass s u l d → Decides (Common s c d u l) t
+  common-decided e true f = record { first = e; second = sym f }
+  common-decided e false f = λ h. false≢true (f ∙ h .second)
+
+  pub not-common : inClass s u l c ≡ false → ¬ Common s c d u l
+  not-common e h = false≢true (sym e ∙ h .first)
+
+  pub swap-common : Common s c d u l → Common s d c u l
+  swap-common h = record { first = h .second; second = h .first }
+
+-- no class has a name whose local number is 0
+pub no-local-zero : {s : List ℕ} {c d u : ℕ} → (l : ℕ) → l < 1 → ¬ Common s c d u l
+no-local-zero l h x = omega (arith, common-positive x)
+
+pub swap-least : (s : List ℕ) (c d : ℕ) (r : Found) → LeastCommon s c d r → LeastCommon s d c r
+swap-least s c d (Name u l) (h, t) = (swap-common s c d u l h, λ v k x. t v k (swap-common s d c v k x))
+swap-least s c d Nothing t = λ u l x. t u l (swap-common s d c u l x)
+
+-- a name holds itself alone
+module _ (s : List ℕ) (c d : ℕ) {k a b : ℕ} (read : Read s c k a b) (name : k ≡ kind.name) where
+  itself-only : (u l : ℕ) → inClass s u l c ≡ true → (u ≡ a) × (l ≡ b)
+  itself-only u l h =
+      let g = and-both (ltb 0 l) (holds s u l c) h .1 in
+      let x = and-both (eqb u a) (eqb l b) (sym (holds-name s u l c read name) ∙ g) in
+      (eqb-true u a (x .0), eqb-true l b (x .1))
+
+  pub name-least : inClass s a b d ≡ true → LeastCommon s c d (Name a b)
+  name-least h = (
+    record { first = both-and positive (holds-name s a b c read name ∙ own); second = h },
+    λ u l x. let e = itself-only u l (x .first) in inr (sym (e .0), omega (arith, e .1)),
+  )
+    where
+      positive : ltb 0 b ≡ true
+      positive = and-both (ltb 0 b) (holds s a b d) h .0
+
+      own : (eqb a a && eqb b b) ≡ true
+      own = both-and (eq-eqb a a refl) (eq-eqb b b refl)
+
+  pub name-shut-out : inClass s a b d ≡ false → LeastCommon s c d Nothing
+  name-shut-out h u l x =
+      let e = itself-only u l (x .first) in false≢true (sym h ∙ rw (← e .0, ← e .1) (x .second))
+
+-- a class whose names are of one namespace
+abbrev pub OneNamespace : List ℕ → ℕ → ℕ → Type 0
+OneNamespace s c a = (u l : ℕ) → inClass s u l c ≡ true → u ≡ a
+
+pub ns-namespace : (s : List ℕ) (c : ℕ) → rowsOf s ≤ maxRows → {a : ℕ} → a ≡ aOf s c → kindOf s c ≡ kind.nsName
+    → OneNamespace s c a
+ns-namespace s c rows {a} e k u l h = eqb-true u a (and-both (eqb u a) (not (upto (step s u l) c (bOf s c))) held .0)
+  where
+    held : (eqb u a && not (upto (step s u l) c (bOf s c))) ≡ true
+    held =
+        sym (holds-nsName s u l c (record { kind = refl; first = e; second = refl })
+        (let i = class-low s c rows (class-held s u l c h) in omega arith) k)
+        ∙ and-both (ltb 0 l) (holds s u l c) h .1
+
+module _ (s : List ℕ) (c d a : ℕ) where
+  pub one-least : ((u l : ℕ) → Common s c d u l → u ≡ a) → (r : Found) → LeastBeside s c d a r → LeastCommon s c d r
+  one-least one (Name u l) (e, h, clear) = (
+    rw e h,
+    λ v k x. inr (e ∙ sym (one v k x), not-before k (rw (one v k x) at x) (decLt k l)),
+  )
+    where
+      not-before : (k : ℕ) → Common s c d a k → Dec (k < l) → l ≤ k
+      not-before k x (yes i) = absurd (clear k i x)
+      not-before k x (no i) = omega arith
+  one-least one Nothing t = λ u l x. t l (rw (one u l x) at x)
+
+-- the namespaces passed have no common name, and what is found in the next is the least in it
+pub found-least : {s : List ℕ} → rowsOf s ≤ maxRows → (c d : ℕ) {n u l : ℕ}
+    → Passed (OneMentions s c d Namespace) 0 (λ v. (k : ℕ) × Common s c d v k) n
+    → LeastBeside s c d n (Name u l) → LeastCommon s c d (Name u l)
+found-least {s} rows c d {n} {u} {l} a (e, h, clear) = (rw e h, λ v k x. go v k x (decLt v n) (ℕ-discrete v n))
+  where
+    not-before : (k : ℕ) → Common s c d n k → Dec (k < l) → l ≤ k
+    not-before k x (yes i) = absurd (clear k i x)
+    not-before k x (no i) = omega arith
+
+    go : (v k : ℕ) → Common s c d v k → Dec (v < n) → Dec (v ≡ n) → NotAfter u l v k
+    go v k x (yes i) f = absurd (passed-clear a (namespace-stands rows c d) v i (k, x))
+    go v k x (no i) (yes f) = inr (e ∙ sym f, not-before k (rw f at x) (decLt k l))
+    go v k x (no i) (no f) = inl (omega arith)
