@@ -22,7 +22,7 @@ adds-none t noRow =
     record { kept = λ r m. m; added = λ r p. absurd (noRow r p); only = λ r m. inl m; rest = λ r n. refl }
 
 -- after a store the marked rows are the old ones and that row, if it is in the table
-pub adds-store : (t : List ℕ) (i : ℕ) → Adds (λ r. (i ≡ r) × (r < length t)) t (set t i 1)
+adds-store : (t : List ℕ) (i : ℕ) → Adds (λ r. (i ≡ r) × (r < length t)) t (set t i 1)
 adds-store t i = go (decLt i (length t))
   where
     new : List ℕ
@@ -95,9 +95,6 @@ adds-picked t p child true room low row =
 mark-length : (wanted : Bool) (r : ℕ) (t : List ℕ) → length (markIf wanted r t) ≡ length t
 mark-length true r t = length-set t r 1
 mark-length false r t = refl
-
-pub children-length : (s : List ℕ) (p : ℕ) (a b : Bool) (t : List ℕ) → length (childrenMarked s p a b t) ≡ length t
-children-length s p a b t = mark-length b (childB s p) (markIf a (childA s p) t) ∙ mark-length a (childA s p) t
 
 pub adds-children : (s t : List ℕ) (p : ℕ) (a b : Bool) → p ≤ length t
     → length t ≤ noRow → Adds (PickedChild s p a b) t (childrenMarked s p a b t)
