@@ -4,8 +4,12 @@
 #[allow(dead_code)]
 #[path = "support/calls.rs"]
 mod calls;
+#[path = "support/clashes.rs"]
+mod clashes;
 #[path = "support/class_rows.rs"]
 mod class_rows;
+#[path = "support/least_names.rs"]
+mod least_names;
 #[allow(dead_code)]
 #[path = "reference/schema_maker.rs"]
 mod maker;
@@ -18,6 +22,7 @@ mod schema_cases;
 mod tally;
 
 use class_rows::member;
+use least_names::least;
 use maker::{damage, expand, grow, over, read, rows_of, Rng, Row};
 use reference::{schema, Answer, Input, NONE};
 use schema_cases::*;
@@ -25,7 +30,7 @@ use std::cell::Cell;
 use std::time::{Duration, Instant};
 use tally::Tally;
 
-/// What a large schema may take, with room for a busy machine; it takes some tens of milliseconds.
+/// What a large schema may take, with room for a busy machine; it takes some milliseconds.
 const LIMIT: Duration = Duration::from_secs(5);
 
 /// The verdict; where it is a fault, both questions about classes answer it too.
@@ -35,13 +40,6 @@ fn verdict(y: &mut Tally, name: &str, s: &Input, expected: Answer) {
         member(y, name, s, NONE, (0, 1), expected, &[0; 3]);
         least(y, name, s, (0, NONE), expected, &[0; 3]);
     }
-}
-
-/// The answer and the whole output, which has room for so many words.
-fn least(y: &mut Tally, name: &str, s: &Input, pair: (u32, u32), answer: Answer, out: &[u32]) {
-    let got = calls::least_common_name(s, pair, out.len());
-    let what = format_args!("{name}, least common name of {pair:?}, room {}, {s:?}", out.len());
-    y.same(what, got, (answer, out.to_vec()));
 }
 
 /// A schema in the notation, over n strings. A fault is at the row marked.
@@ -166,21 +164,6 @@ fn named_rules(y: &mut Tally) {
     }
 }
 
-fn named_classes(y: &mut Tally) {
-    for (one, other, (n, l)) in LEAST {
-        let (schema, marks) = read(&format!("element !{one} none element !{other} none start | $0 $1"));
-        let s = over(4, schema);
-        for (pair, room) in [(0, 1), (1, 0)].iter().flat_map(|pair| (0..=4).map(move |room| (pair, room))) {
-            let (answer, out) = match (n, room) {
-                (9, _) => ((0, 0), [0; 4]),
-                (_, 0 | 1) => ((12, 0), [0; 4]),
-                _ => ((0, 1), [n, l, 0, 0]),
-            };
-            least(y, one, &s, (marks[pair.0], marks[pair.1]), answer, &out[..room]);
-        }
-    }
-}
-
 /// Rows of every sort; those that are classes, each with its least name and the row that holds it.
 fn rows_of_every_sort(y: &mut Tally) {
     let text = "element / 0:1 *- 0:2 | @ 0:3 data- value , + text $0 element 1:* & text @ 0:1 empty";
@@ -293,13 +276,16 @@ fn main() {
     named_rows(&mut y);
     named_counts(&mut y);
     named_rules(&mut y);
-    named_classes(&mut y);
+    least_names::named(&mut y);
+    clashes::page(&mut y);
     rows_of_every_sort(&mut y);
     class_rows::named(&mut y);
     class_rows::refused(&mut y);
     random_schemas(&mut y, &r);
     class_rows::small(&mut y);
     class_rows::random(&mut y, &r);
+    least_names::small(&mut y);
+    least_names::random(&mut y, &r);
     large_schemas(&mut y);
     class_rows::large(&mut y);
     y.end();

@@ -23,7 +23,7 @@ fn in_rooms(y: &mut Tally, what: &str, s: &Input, class: u32, name: Name, (yes, 
 }
 
 /// The rows that are classes.
-fn classes_of(s: &Input) -> Vec<u32> {
+pub fn classes_of(s: &Input) -> Vec<u32> {
     let rows = rows_of(&s.schema);
     (0..rows.len() as u32).filter(|&row| (16..=19).contains(&rows[row as usize][0])).collect()
 }
@@ -274,19 +274,21 @@ fn every_order(rows: &[Row]) -> Vec<Vec<Row>> {
     all.iter().map(|numbers| in_order(rows, numbers)).collect()
 }
 
-/// All classes of so many rows over two namespaces and two local names: of names alone for 0, with nsName for 1, with
-/// anyName too for 2.
-fn all_classes(rows: usize, wild: usize) -> Vec<String> {
+/// All classes of so many rows over so many namespaces and as many local names: of names alone for 0, with nsName for
+/// 1, with anyName too for 2.
+pub fn all_classes(rows: usize, wild: usize, numbers: usize) -> Vec<String> {
+    let spaces = (0..numbers).map(|n| (format!("{n}:*"), 0));
+    let outer: Vec<_> = spaces.chain([("*".to_string(), 1)]).take([0, numbers, numbers + 1][wild]).collect();
     if rows == 1 {
-        let one = ["0:1", "0:2", "1:1", "1:2", "0:*", "1:*", "*"];
-        return one[..[4, 6, 7][wild]].iter().map(|class| class.to_string()).collect();
+        let names = (0..numbers).flat_map(|n| (1..=numbers).map(move |l| format!("{n}:{l}")));
+        return names.chain(outer.into_iter().map(|(class, _)| class)).collect();
     }
     let mut all: Vec<String> = vec![];
-    for (outer, inner) in &[("0:*-", 0), ("1:*-", 0), ("*-", 1)][..[0, 2, 3][wild]] {
-        all.extend(all_classes(rows - 1, *inner).iter().map(|class| format!("{outer} {class}")));
+    for (outer, inner) in outer {
+        all.extend(all_classes(rows - 1, inner, numbers).iter().map(|class| format!("{outer}- {class}")));
     }
-    for (k, one) in (1..rows - 1).flat_map(|k| all_classes(k, wild).into_iter().map(move |one| (k, one))) {
-        all.extend(all_classes(rows - 1 - k, wild).iter().map(|other| format!("/ {one} {other}")));
+    for (k, one) in (1..rows - 1).flat_map(|k| all_classes(k, wild, numbers).into_iter().map(move |one| (k, one))) {
+        all.extend(all_classes(rows - 1 - k, wild, numbers).iter().map(|other| format!("/ {one} {other}")));
     }
     all
 }
@@ -294,12 +296,12 @@ fn all_classes(rows: usize, wild: usize) -> Vec<String> {
 /// All classes of up to five rows, with their rows in every order.
 pub fn small(y: &mut Tally) {
     let mut seen = [0; 7];
-    for class in (1..=5).flat_map(|rows| all_classes(rows, 2)) {
+    for class in (1..=5).flat_map(|rows| all_classes(rows, 2, 2)) {
         for rows in every_order(&rows_of(&read(&class).0)) {
             every_name(y, &mut seen, &with_class(3, &rows), &[0, 1, 2], &[0, 1, 2, 3]);
         }
     }
-    enough(y, "small", seen);
+    enough(y, "small classes", SORTS, seen);
 }
 
 /// A random class of at most so many rows over so many namespaces, of names alone and so on as above. Excepts have the
@@ -321,7 +323,7 @@ fn random_class(r: &Rng, rows: usize, wild: usize, namespaces: usize) -> String 
 }
 
 /// The rows of a schema in a random order, children before their parents and start last.
-fn shuffled(r: &Rng, rows: &[Row]) -> Vec<Row> {
+pub fn shuffled(r: &Rng, rows: &[Row]) -> Vec<Row> {
     let last = rows.len() - 1;
     let mut numbers = vec![NONE; last];
     for next in 0..last as u32 {
@@ -341,11 +343,11 @@ pub fn random(y: &mut Tally, r: &Rng) {
         let schema = rows_of(&read(&format!("element {one} none element {other} none start none")).0);
         every_name(y, &mut seen, &over(4, shuffled(r, &schema).concat()), &[0, 1, 2, 9], &[0, 1, 2, 3, 9]);
     }
-    enough(y, "random", seen);
+    enough(y, "random classes", SORTS, seen);
 }
 
-fn enough(y: &mut Tally, what: &str, seen: [usize; 7]) {
-    println!("{what} classes:");
-    SORTS.iter().zip(seen).for_each(|(sort, count)| println!("    {sort}: {count}"));
+pub fn enough<const N: usize>(y: &mut Tally, what: &str, sorts: [&str; N], seen: [usize; N]) {
+    println!("{what}:");
+    sorts.iter().zip(seen).for_each(|(sort, count)| println!("    {sort}: {count}"));
     y.same(format_args!("100 of each sort of answer, {what}, {seen:?}"), seen.iter().all(|&count| count >= 100), true);
 }

@@ -35,7 +35,7 @@ HasNamespace s u r = ((kindOf s r ≡ kind.nsName) ⊎ (kindOf s r ≡ kind.name
 abbrev pub HasLocal : List ℕ → ℕ → ℕ → Type 0
 HasLocal s l r = (kindOf s r ≡ kind.name) × (bOf s r ≡ l)
 
--- v is the least number from a first one on that is not mentioned
+-- v is the least number from a first one on that is not known; what is known here is what the classes mention
 pub record Fresh (Known : ℕ → Type 0) (first v : ℕ) : Type 0 where
   pub low : first ≤ v
   pub new : ¬ Known v
