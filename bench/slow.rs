@@ -348,9 +348,12 @@ fn schemas() -> Vec<Slow> {
     let attributes = "element 0:1 , @ (/ 1 125 #:#) text @ (/ 126 250 #:#) text start $0";
     let attributes = job(251, attributes, true, flat(&[], &[]));
     let many = job(167, "element 0:1 (, 1 83 @ / 0:# #:1 text) start $0", true, flat(&[], &[]));
+    let any = "element 0:1 , + @ *- (/ 0 124 #:*) text + @ (/ 0 124 #:*) text start $0";
+    let any = job(125, any, true, flat(&[], &[]));
     vec![
         slow("except_nested", excepts, true, 1, "data with excepts 504 deep"),
         slow("two_classes", attributes, false, 0, "two attributes of 125 names each in a group, all numbers distinct"),
+        slow("two_classes_any", any, false, 0, "anyName except 125 namespaces beside the names of these"),
         slow("many_classes", many, false, 0, "group of 83 attributes of two names each"),
         slow("two_classes_refs", refs, false, 0, "an interleave of 50 refs each to two definitions of 73 names"),
         slow("interleaves_again", again, false, 0, "32 interleaves of the same two definitions of 94 names"),

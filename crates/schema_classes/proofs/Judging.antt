@@ -2,13 +2,13 @@
 use Prim.Native.Nat.{ℕ, _≤_, _<_}
 use mathlib.Core.Path.{_≡_, refl, sym, _∙_, ap, ap₂}
 use mathlib.Core.Bool.{Bool, true, false, not, _&&_, _||_, false≢true}
-use mathlib.Core.Logic.{_⊎_, ⊎-elim}
+use mathlib.Core.Logic.{_⊎_, inl, inr, ⊎-elim}
 use mathlib.Core.List.{List}
 use native.Mathlib.Decide.{decLt}
 use native.Mathlib.Omega.{arith}
 use lib.Dec.{ltb, eqb}
 use borrow.Author.Tests.{lt-ltb, le-ltb, ltb-true, eq-eqb, ne-eqb}
-use Rattle.tables.proofs.Booleans.{and-both}
+use Rattle.tables.proofs.Booleans.{and-both, or-either}
 use Rattle.schema.specs.Falling.{upto}
 use Rattle.schema.specs.Kinds as kind
 use Rattle.schema.specs.Rows.{kindOf, shapeOf, sortOf, isClass}
@@ -108,6 +108,17 @@ module _ (s : List ℕ) (u l : ℕ) where
           → Judged s u l c (No kind.noRow)
       no-class-says m n o p =
           nothing (λ f. p (read .kind ∙ f)) (held c ∙ holds-other s u l c read m n o p) (no-except k refl m n)
+
+      -- what a choice holds, a member holds
+      pub choice-member : k ≡ kind.nameChoice → inClass s u l c ≡ true
+          → ((a < c) × (inClass s u l a ≡ true)) ⊎ ((b < c) × (inClass s u l b ≡ true))
+      choice-member e h =
+          ⊎-elim (λ i. inl (member a i)) (λ i. inr (member b i)) (or-either (upto (step s u l) c a)
+          (upto (step s u l) c b) (sym (holds-nameChoice s u l c read e) ∙ sym (held c) ∙ h))
+        where
+          member : (x : ℕ) → upto (step s u l) c x ≡ true → (x < c) × (inClass s u l x ≡ true)
+          member x i =
+              let g = and-both (ltb x c) (inClass s u l x) (sym (field c x) ∙ i) in (ltb-true x c (g .0), g .1)
 
       -- the row fits a field, so that the number of no row is none of its parts
       module _ (low : c ≤ kind.noRow) where

@@ -1,28 +1,30 @@
--- The least common name: of a name and a class, of an nsName and a class, and of two classes, namespace by namespace.
+-- The least common name: of classes that have none, of an nsName and a class, and of two classes, namespace by
+-- namespace.
 use Prim.Native.Nat.{ℕ, _≤_, _<_}
 use mathlib.Core.Path.{_≡_, refl, sym, _∙_}
 use mathlib.Core.Bool.{Bool, true, false, not, _&&_, false≢true}
-use mathlib.Core.Logic.{inl, inr}
+use mathlib.Core.Logic.{inl, inr, ⊎-elim}
 use mathlib.Core.List.{List}
 use native.Mathlib.Decide.{decLt, ℕ-discrete}
 use native.Mathlib.Omega.{arith}
 use lib.Dec.{ltb, eqb}
-use borrow.Author.Tests.{eqb-true, eq-eqb}
+use borrow.Author.Tests.{eqb-true}
 use Rattle.tables.specs.Answers.{Decides}
-use Rattle.tables.proofs.Booleans.{and-both, both-and}
+use Rattle.tables.proofs.Booleans.{and-both}
 use Rattle.schema.specs.Falling.{upto}
 use Rattle.schema.specs.Kinds as kind
 use Rattle.schema.specs.RowRule.{maxRows}
 use Rattle.schema.specs.Rows.{rowsOf, kindOf, aOf, bOf}
 use Rattle.schema_classes.specs.Membership.{holds, inClass}
 use Rattle.schema_classes.specs.Least.{Common, NotAfter, LeastCommon}
-use Rattle.schema_classes.specs.Search.{OneMentions, LeastBeside}
+use Rattle.schema_classes.specs.Search.{OneMentions, ToldApart, SmallerToldApart, LeastBeside}
 use Rattle.schema_classes.specs.declared.Found.{Found}
 use Rattle.schema_classes.specs.declared.Found.the-variants.{Name, Nothing}
 use Rattle.schema_classes.specs.declared.Part.the-variants.{Namespace}
 use Rattle.schema_classes.proofs.ClassRows.{class-held}
 use Rattle.schema_classes.proofs.Holds.{step, Read, holds-name, holds-nsName}
 use Rattle.schema_classes.proofs.CommonNames.{common-positive, namespace-stands}
+use Rattle.schema_classes.proofs.Judging.{choice-member}
 use Rattle.schema_classes.proofs.Searching.{Passed, passed-clear}
 use Rattle.schema_classes.proofs.SmallModel.{class-low}
 
@@ -42,33 +44,32 @@ module _ (s : List ℕ) (c d u l : ℕ) where
 pub no-local-zero : {s : List ℕ} {c d u : ℕ} → (l : ℕ) → l < 1 → ¬ Common s c d u l
 no-local-zero l h x = omega (arith, common-positive x)
 
-pub swap-least : (s : List ℕ) (c d : ℕ) (r : Found) → LeastCommon s c d r → LeastCommon s d c r
-swap-least s c d (Name u l) (h, t) = (swap-common s c d u l h, λ v k x. t v k (swap-common s d c v k x))
-swap-least s c d Nothing t = λ u l x. t u l (swap-common s d c u l x)
-
--- a name holds itself alone
-module _ (s : List ℕ) (c d : ℕ) {k a b : ℕ} (read : Read s c k a b) (name : k ≡ kind.name) where
-  itself-only : (u l : ℕ) → inClass s u l c ≡ true → (u ≡ a) × (l ≡ b)
-  itself-only u l h =
-      let g = and-both (ltb 0 l) (holds s u l c) h .1 in
-      let x = and-both (eqb u a) (eqb l b) (sym (holds-name s u l c read name) ∙ g) in
-      (eqb-true u a (x .0), eqb-true l b (x .1))
-
-  pub name-least : inClass s a b d ≡ true → LeastCommon s c d (Name a b)
-  name-least h = (
-    record { first = both-and positive (holds-name s a b c read name ∙ own); second = h },
-    λ u l x. let e = itself-only u l (x .first) in inr (sym (e .0), omega (arith, e .1)),
-  )
+-- a name, or a choice of names, none of which the class d holds
+module _ (s : List ℕ) (c d : ℕ) {k a b : ℕ} (read : Read s c k a b) where
+  pub name-apart : k ≡ kind.name → (t : Bool) → t ≡ inClass s a b d → ToldApart s c d (not t)
+  name-apart e true h = tt
+  name-apart e false h = other
     where
-      positive : ltb 0 b ≡ true
-      positive = and-both (ltb 0 b) (holds s a b d) h .0
+      other : (u l : ℕ) → ¬ Common s c d u l
+      other u l x =
+          let g = and-both (ltb 0 l) (holds s u l c) (x .first) .1 in
+          let i = and-both (eqb u a) (eqb l b) (sym (holds-name s u l c read e) ∙ g) in
+          false≢true (h ∙ rw (← eqb-true u a (i .0), ← eqb-true l b (i .1)) (x .second))
 
-      own : (eqb a a && eqb b b) ≡ true
-      own = both-and (eq-eqb a a refl) (eq-eqb b b refl)
+  pub choice-apart : k ≡ kind.nameChoice → SmallerToldApart s c a d true → (t : Bool) → SmallerToldApart s c b d t
+      → ToldApart s c d t
+  choice-apart e f false g = tt
+  choice-apart e f true g = members
+    where
+      members : (u l : ℕ) → ¬ Common s c d u l
+      members u l x =
+          ⊎-elim (λ i. f (i .0) u l (record { first = i .1; second = x .second }))
+          (λ i. g (i .0) u l (record { first = i .1; second = x .second }))
+          (choice-member s u l (common-positive x) read e (x .first))
 
-  pub name-shut-out : inClass s a b d ≡ false → LeastCommon s c d Nothing
-  name-shut-out h u l x =
-      let e = itself-only u l (x .first) in false≢true (sym h ∙ rw (← e .0, ← e .1) (x .second))
+pub member-apart : (s : List ℕ) (p c d : ℕ) (t : Bool) → ToldApart s c d t → SmallerToldApart s p c d t
+member-apart s p c d true h = λ l. h
+member-apart s p c d false h = tt
 
 -- a class whose names are of one namespace
 abbrev pub OneNamespace : List ℕ → ℕ → ℕ → Type 0

@@ -2,6 +2,7 @@
 -- mention above the last.
 use Prim.Native.Nat.{ℕ, _≤_, _<_}
 use mathlib.Core.Path.{_≡_}
+use mathlib.Core.Bool.{Bool, true, false}
 use mathlib.Core.Logic.{_⊎_}
 use mathlib.Core.List.{List}
 use Rattle.tables.specs.Answers.{Clear}
@@ -66,6 +67,15 @@ pub record FreshNumber (P : ℕ → Type 0) (first r : ℕ) : Type 0 where
 
 abbrev pub ToTry : List ℕ → ℕ → ℕ → Part → ℕ → Type 0
 ToTry s c d part = KnownOrFresh (OneMentions s c d part) (leastOf part)
+
+-- yes says that the classes c and d have no name in common; and so for c in a field of p
+abbrev pub ToldApart : List ℕ → ℕ → ℕ → Bool → Type 0
+ToldApart s c d true = (u l : ℕ) → ¬ Common s c d u l
+ToldApart s c d false = Unit {0}
+
+abbrev pub SmallerToldApart : List ℕ → ℕ → ℕ → ℕ → Bool → Type 0
+SmallerToldApart s p c d true = c < p → (u l : ℕ) → ¬ Common s c d u l
+SmallerToldApart s p c d false = Unit {0}
 
 -- the least common name of the namespace u
 abbrev pub LeastBeside : List ℕ → ℕ → ℕ → ℕ → Found → Type 0

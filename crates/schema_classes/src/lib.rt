@@ -10,7 +10,8 @@ ghost use Rattle.schema_classes.specs.WhichRow.{Judged};
 ghost use Rattle.schema_classes.specs.Judging.{smallerOf, unlessExcepted, choiceOf, JudgedBelow};
 ghost use Rattle.schema_classes.specs.Least.{Common, LeastCommon};
 ghost use Rattle.schema_classes.specs.Search.{NsNameMentions, NameMentions, Mentions, MentionsBelow, OneMentions};
-ghost use Rattle.schema_classes.specs.Search.{Lowered, NextNumber, leastOf, FreshNumber, ToTry, LeastBeside};
+ghost use Rattle.schema_classes.specs.Search.{Lowered, NextNumber, leastOf, FreshNumber, ToTry};
+ghost use Rattle.schema_classes.specs.Search.{ToldApart, SmallerToldApart, LeastBeside};
 
 // Whether a name is in a class, and the row that says so: for yes the smallest that takes the name in, for no the
 // smallest except class that shuts it out, or NO_ROW where none does.
@@ -307,32 +308,49 @@ fn try_namespaces(schema: &[u32], first: u32, second: u32) -> Found
     Found::Nothing
 }
 
-// The name at a row, if the class at another holds it.
-fn try_name(schema: &[u32], row: u32, class: u32) -> Found
-    requires { ⌜ kindOf (now schema) row ≡ kind.name ⌝ }
-    ensures { λ r. ⌜ LeastCommon (now (schema .entry)) row class r ⌝ }
+// Whether the class at a row is one name or a choice of names, none of which another class holds: then the two have no
+// name in common, and no search is needed to tell.
+fn apart(schema: &[u32], row: u32, class: u32) -> bool
+    ensures { λ r. ⌜ ToldApart (now (schema .entry)) row class r ⌝ }
 {
-    let namespace = schema::field_a(schema, row);
-    let local = schema::field_b(schema, row);
-    if in_class(schema, class, namespace, local) {
-        Found::Name(namespace, local)
+    let a = schema::field_a(schema, row);
+    let b = schema::field_b(schema, row);
+    match schema::kind(schema, row) {
+        schema::NAME => !in_class(schema, class, a, b),
+        schema::NAME_CHOICE => {
+            if smaller_apart(schema, row, a, class) {
+                smaller_apart(schema, row, b, class)
+            } else {
+                false
+            }
+        }
+        _ => false,
+    }
+}
+
+// The same of a member of a choice, which is a smaller row.
+fn smaller_apart(schema: &[u32], parent: u32, row: u32, class: u32) -> bool
+    ensures { λ r. ⌜ SmallerToldApart (now (schema .entry)) parent row class r ⌝ }
+{
+    if row < parent {
+        apart(schema, row, class)
     } else {
-        Found::Nothing
+        true
     }
 }
 
 // The least name that the classes at two rows both hold, over all numbers as namespaces and all from 1 on as locals, or
-// nothing where there is none. A name holds itself alone, and an nsName names of its namespace alone. The caller shows
-// that there are at most 512 rows.
+// nothing where there is none. Most classes are told apart without a search, and an nsName holds names of its namespace
+// alone. The caller shows that there are at most 512 rows.
 pub fn least_common(schema: &[u32], first: u32, second: u32) -> Found
     requires { ⌜ rowsOf (now schema) ≤ maxRows ⌝ }
     ensures { λ r. ⌜ LeastCommon (now (schema .entry)) first second r ⌝ }
 {
-    if schema::kind(schema, first) == schema::NAME {
-        return try_name(schema, first, second);
+    if apart(schema, first, second) {
+        return Found::Nothing;
     }
-    if schema::kind(schema, second) == schema::NAME {
-        return try_name(schema, second, first);
+    if apart(schema, second, first) {
+        return Found::Nothing;
     }
     if schema::kind(schema, first) == schema::NS_NAME {
         return try_namespace(schema, first, second, schema::field_a(schema, first));
