@@ -293,7 +293,7 @@ fn members(r: &Rng, [namespaces, locals]: &[Vec<u32>; 2]) -> Vec<String> {
     all
 }
 
-/// Often the second class holds what the first does not and a little more, or the two excepts are parts of one list.
+/// Often the others hold what the first does not, or a little more, or the excepts of two are parts of one list.
 fn random_classes(r: &Rng) -> [String; 3] {
     let numbers = [runs(r, 0), runs(r, 1)];
     let list = || nested(r, &members(r, &numbers));
@@ -304,22 +304,24 @@ fn random_classes(r: &Rng) -> [String; 3] {
     };
     let some = members(r, &numbers);
     let (one, other) = some.split_at(some.len() / 2);
+    let except = |items: &[String]| format!("*- {}", nested(r, items));
     match r.below(3) {
-        0 if some.len() > 1 => [nested(r, &some), format!("*- {}", nested(r, &some[1..])), class()],
-        1 if some.len() > 1 => [format!("*- {}", nested(r, one)), format!("*- {}", nested(r, other)), class()],
+        0 if some.len() > 1 => [nested(r, &some), except(&some[r.below(2)..]), except(&some)],
+        1 if some.len() > 1 => [except(one), except(other), class()],
         _ => [class(), class(), class()],
     }
 }
 
 /// Three classes of up to 40 rows in one schema, with their rows mixed, and some of the rows that lie in them.
 pub fn random(y: &mut Tally, r: &Rng) {
-    let (mut seen, short) = ([0; 6], |class: &String| class.split(' ').count() <= 40);
-    for classes in (0..3_000).map(|_| random_classes(r)).filter(|classes| classes.iter().all(short)) {
+    let (mut seen, mut met, short) = ([0; 6], [0; 2], |class: &String| class.split(' ').count() <= 40);
+    for classes in (0..4_000).map(|_| random_classes(r)).filter(|classes| classes.iter().all(short)) {
         let [one, other, third] = &classes;
         let (schema, marks) = read(&with(&[one, other, third]));
         let rows = rows_of(&schema);
-        let meet = [1, 2].map(|k| least_made(&rows, (marks[0], marks[k])).is_some());
-        verdicts(y, &[one, other, third], meet != [false, false]);
+        let meet = [1, 2].iter().any(|&k| least_made(&rows, (marks[0], marks[k])).is_some());
+        verdicts(y, &[one, other, third], meet);
+        met[usize::from(meet)] += 1;
         let s = over_least(shuffled(r, &rows).concat());
         let (rows, some) = (rows_of(&s.schema), classes_of(&s));
         let own: Vec<u32> = rows.iter().filter(|row| row[0] == 20).map(|row| row[1]).collect();
@@ -329,4 +331,5 @@ pub fn random(y: &mut Tally, r: &Rng) {
         }
     }
     enough(y, "random pairs", SORTS, seen);
+    enough(y, "random verdicts", ["no name on both sides", "a name on both sides"], met);
 }
