@@ -1,7 +1,7 @@
 -- In a table that keeps the rule of rows, the rows of `Lies` are those of the class that are in none of its excepts.
 use Prim.Native.Nat.{ℕ, _≤_}
 use mathlib.Core.Path.{_≡_, refl, sym, subst}
-use mathlib.Core.Bool.{true, false, _&&_, false≢true}
+use mathlib.Core.Bool.{true, _&&_}
 use mathlib.Core.Logic.{_⊎_, inl, inr, ⊎-elim}
 use mathlib.Core.List.{List}
 use native.Mathlib.Decide.{ℕ-discrete}
@@ -16,6 +16,7 @@ use Rattle.schema.proofs.Children.{child-less}
 use Rattle.schema.proofs.Sorts.{ClassKind, any-name, ns-name, one-name, name-choice, class-kind}
 use Rattle.schema.proofs.OneParent.{Upward, arrived, upward, below-upward, upward-less, apart-below}
 use Rattle.schema_classes.specs.WhichRow.{Lies, itself, within}
+use Rattle.schema_classes.proofs.ClassRows.{no-part}
 
 -- r is in c: it is c or below it
 abbrev pub In : List ℕ → ℕ → ℕ → Type 0
@@ -51,11 +52,6 @@ module _ {s : List ℕ} where
   lies-in-class (within k h l) = in-child h (lies-in-class l)
 
 module _ {s : List ℕ} {q c : ℕ} where
-  no-part : kindOf s c ≡ kind.name → ¬ Child s q c
-  unfolding shapeOf
-  no-part k (by-a e f) = false≢true (rw k at e)
-  no-part k (by-b e f) = false≢true (rw k at e)
-
   member-class : kindOf s c ≡ kind.nameChoice → Child s q c → isClass (sortOf s q) ≡ true
   unfolding shapeOf
   member-class k (by-a e f) =

@@ -1,4 +1,5 @@
--- A row that is no class holds nothing, and a smaller row that is a class is a child of a row whose field can name one.
+-- A row that is no class holds nothing, a name has no child, and a smaller row that is a class is a child of a row
+-- whose field can name one.
 use Prim.Native.Nat.{ℕ, _<_}
 use mathlib.Core.Path.{_≡_, refl, sym, _∙_, ap}
 use mathlib.Core.Bool.{Bool, true, false, _&&_, true≢false, false≢true}
@@ -29,6 +30,12 @@ class-held s u l r h = go (isClass (sortOf s r)) refl
     go : (t : Bool) → isClass (sortOf s r) ≡ t → t ≡ true
     go true e = refl
     go false e = absurd (false≢true (sym (no-class s u l r e) ∙ and-right (ltb 0 l) (holds s u l r) h))
+
+-- a name has no child
+pub no-part : {s : List ℕ} {q c : ℕ} → kindOf s c ≡ kind.name → ¬ Child s q c
+unfolding shapeOf
+no-part k (by-a e f) = false≢true (rw k at e)
+no-part k (by-b e f) = false≢true (rw k at e)
 
 -- a smaller row that is a class, in a field that can name one, is a child
 module _ (s : List ℕ) (c k : ℕ) where

@@ -11,6 +11,7 @@ use lib.Dec.{ltb, eqb}
 use borrow.Author.Tests.{eqb-true}
 use Rattle.tables.specs.Answers.{Decides}
 use Rattle.tables.proofs.Booleans.{and-both}
+use Rattle.tables.proofs.Numbers.{not-less}
 use Rattle.schema.specs.Falling.{upto}
 use Rattle.schema.specs.Kinds as kind
 use Rattle.schema.specs.RowRule.{maxRows}
@@ -89,12 +90,8 @@ module _ (s : List ℕ) (c d a : ℕ) where
   pub one-least : ((u l : ℕ) → Common s c d u l → u ≡ a) → (r : Found) → LeastBeside s c d a r → LeastCommon s c d r
   one-least one (Name u l) (e, h, clear) = (
     rw e h,
-    λ v k x. inr (e ∙ sym (one v k x), not-before k (rw (one v k x) at x) (decLt k l)),
+    λ v k x. inr (e ∙ sym (one v k x), not-less (λ i. clear k i (rw (one v k x) at x))),
   )
-    where
-      not-before : (k : ℕ) → Common s c d a k → Dec (k < l) → l ≤ k
-      not-before k x (yes i) = absurd (clear k i x)
-      not-before k x (no i) = omega arith
   one-least one Nothing t = λ u l x. t l (rw (one u l x) at x)
 
 -- the namespaces passed have no common name, and what is found in the next is the least in it
@@ -103,11 +100,7 @@ pub found-least : {s : List ℕ} → rowsOf s ≤ maxRows → (c d : ℕ) {n u l
     → LeastBeside s c d n (Name u l) → LeastCommon s c d (Name u l)
 found-least {s} rows c d {n} {u} {l} a (e, h, clear) = (rw e h, λ v k x. go v k x (decLt v n) (ℕ-discrete v n))
   where
-    not-before : (k : ℕ) → Common s c d n k → Dec (k < l) → l ≤ k
-    not-before k x (yes i) = absurd (clear k i x)
-    not-before k x (no i) = omega arith
-
     go : (v k : ℕ) → Common s c d v k → Dec (v < n) → Dec (v ≡ n) → NotAfter u l v k
     go v k x (yes i) f = absurd (passed-clear a (namespace-stands rows c d) v i (k, x))
-    go v k x (no i) (yes f) = inr (e ∙ sym f, not-before k (rw f at x) (decLt k l))
+    go v k x (no i) (yes f) = inr (e ∙ sym f, not-less (λ i. clear k i (rw f at x)))
     go v k x (no i) (no f) = inl (omega arith)

@@ -1,6 +1,6 @@
 -- The least common name of two classes is the least of the made names that both hold, and there is none exactly when no
 -- made name is held by both. So a reader can follow the search: take the made names in order; the first that both
--- classes hold is the answer. The search itself tries no others.
+-- classes hold is the answer. The numbers that the search takes make no other names.
 use Prim.Native.Nat.{ℕ, _≤_, _<_}
 use mathlib.Core.Path.{_≡_, refl}
 use mathlib.Core.Logic.{_⊎_, inl, inr}

@@ -15,7 +15,7 @@ use Rattle.schema_classes.specs.Made.{RowIn, itself, within}
 use Rattle.schema_classes.specs.Search.{NsNameMentions, NameMentions, RowMentions, by-nsName, by-name}
 use Rattle.schema_classes.specs.Search.{Mentions, MentionsBelow}
 use Rattle.schema_classes.specs.declared.Part.{Part}
-use Rattle.schema_classes.proofs.ClassRows.{child-a, child-b}
+use Rattle.schema_classes.proofs.ClassRows.{no-part, child-a, child-b}
 use Rattle.schema_classes.proofs.Holds.{Read}
 use Rattle.schema_classes.proofs.Smallest.{Union}
 
@@ -78,11 +78,6 @@ module _ (s : List ℕ) where
       ns-child e (by-a h f) = absurd (false≢true (rw (sym (read .kind) ∙ e) at h))
       ns-child e (by-b h f) = read .second ∙ f
 
-      name-child : k ≡ kind.name → {m : ℕ} → ¬ Child s m c
-      unfolding shapeOf
-      name-child e (by-a h f) = false≢true (rw (sym (read .kind) ∙ e) at h)
-      name-child e (by-b h f) = false≢true (rw (sym (read .kind) ∙ e) at h)
-
       -- a field of a kind j that can name a class
       parent-a : (j : ℕ) → ((x : ℕ) → names s c (shapeOf j .a) x ≡ (ltb x c && isClass (sortOf s x))) → k ≡ j
           → a < c → isClass (sortOf s a) ≡ true → Child s a c
@@ -123,7 +118,7 @@ module _ (s : List ℕ) where
       of-name e v m = own (by-name (sym (read .kind) ∙ e) (rw (← read .first, ← read .second) m))
 
       pub name-of : k ≡ kind.name → (v : ℕ) → Mentions s part c v → NameMentions a b part v
-      name-of e v m = ⊎-elim itself (λ (n, h, x). absurd (name-child e h)) (parts m)
+      name-of e v m = ⊎-elim itself (λ (n, h, x). absurd (no-part (sym (read .kind) ∙ e) h)) (parts m)
         where
           itself : Own c v → NameMentions a b part v
           itself (by-nsName f m) = absurd (let g = read .kind ∙ f in omega arith)

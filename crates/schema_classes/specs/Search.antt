@@ -1,5 +1,5 @@
 -- The search for the least common name: the numbers to try are taken in rising order, each from what the two classes
--- mention above the last.
+-- mention above the last. Cited by private functions only.
 use Prim.Native.Nat.{ℕ, _≤_, _<_}
 use mathlib.Core.Path.{_≡_}
 use mathlib.Core.Bool.{Bool, true, false}
