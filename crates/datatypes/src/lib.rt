@@ -1,4 +1,6 @@
 // The built-in datatypes: whitespace, the tokens between it, and when `string` and `token` take two texts for equal.
+#![tactic(auto)]
+
 ghost use Rattle.std.specs.Prelude.{◌≡◌};
 ghost use Rattle.datatypes.specs.Whitespace.{space, whitespace, string_equal, token_equal};
 ghost use Rattle.datatypes.specs.Cursor.{Skips, Reads, is_end};
@@ -13,6 +15,7 @@ enum Step {
 }
 
 // Yes exactly for the whitespace characters #x20, #x9, #xA and #xD.
+#[tactic(auto, unfolding(crate::specs::Whitespace::space))]
 pub fn is_space(c: u8) -> bool
     ensures { result ≡ space c }
 {

@@ -1,5 +1,7 @@
 // The library for C and Rust: the eight public calls and `report`, as numbers and slices alone. Each hands on the
 // promise of its call; what its number says is a definition (specs/Packed). A refusal leaves zeros in every output.
+#![tactic(auto)]
+
 ghost use Rattle.std.specs.Prelude.{◌≡◌, ◌+◌, ◌*◌, length};
 ghost use Rattle.tables.specs.Tables.{string_table, tables_of};
 ghost use Rattle.job_lines.specs.Promises.{room_of};

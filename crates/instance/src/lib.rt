@@ -1,4 +1,6 @@
 // Instance rows: the words of a row.
+#![tactic(auto)]
+
 ghost use Rattle.std.specs.Prelude.{◌≡◌, ◌||◌, eqb};
 ghost use Rattle.instance.specs.Nodes.{kind_of, parent_of, a_of, b_of, c_of, element, text};
 

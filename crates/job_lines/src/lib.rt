@@ -1,4 +1,6 @@
 // The lines of a job file, into lent tables.
+#![tactic(auto)]
+
 ghost use Rattle.std.specs.Prelude.{◌≡◌, ◌+◌, ◌≤◌, ◌<◌, length, drop};
 ghost use Rattle.strings.specs.Strings.{max_strings, max_bytes};
 ghost use Rattle.instance.specs.NodeRule.{max_nodes};

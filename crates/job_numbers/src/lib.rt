@@ -1,4 +1,6 @@
 // Numbers, words and hexadecimal digits as a job file writes them.
+#![tactic(auto)]
+
 ghost use Rattle.std.specs.Prelude.{◌≡◌};
 ghost use Rattle.job.specs.Numbers.{no_leading_zero, number_of, word_of, hex_value};
 ghost use Rattle.job_numbers.specs.Answers.{as_number, digits_of};

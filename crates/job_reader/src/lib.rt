@@ -1,4 +1,6 @@
 // The reader of job files.
+#![tactic(auto)]
+
 ghost use Rattle.std.specs.Prelude.{◌≡◌, ◌&&◌, leb};
 ghost use Rattle.job.specs.Reading.{read_job};
 ghost use Rattle.job_lines.specs.Promises.{room_of, OutputsHold};

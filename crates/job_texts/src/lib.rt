@@ -1,4 +1,6 @@
 // Texts put into a lent output as far as they fit: that of a job, and what `check` prints.
+#![tactic(auto)]
+
 ghost use Rattle.std.specs.Prelude.{◌≡◌, [], ◌∷◌, ◌++◌, ◌+◌, ◌*◌, ◌%◌, ◌≤◌, ◌<◌, length, take, drop};
 ghost use Rattle.tables.specs.Tables.{string_table, tables_of};
 ghost use Rattle.strings.specs.Strings.{text_of, max_strings, max_bytes};

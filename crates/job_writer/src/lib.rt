@@ -1,4 +1,6 @@
 // The writer of job files.
+#![tactic(auto)]
+
 ghost use Rattle.std.specs.Prelude.{◌≡◌, ◌<◌, length};
 ghost use Rattle.tables.specs.Answers.{Finds};
 ghost use Rattle.tables.specs.Outputs.{zeros};

@@ -1,4 +1,6 @@
 // The relation of a pattern over the attributes and items of one element, on the m positions between the items.
+#![tactic(auto)]
+
 ghost use Rattle.std.specs.Prelude.{◌≡◌, ◌+◌};
 ghost use Rattle.schema.specs.Kinds as kind;
 ghost use Rattle.schema.specs.Rows.{kind_of};

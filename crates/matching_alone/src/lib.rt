@@ -1,4 +1,6 @@
 // Which strings match a pattern alone, and which patterns match nothing at all.
+#![tactic(auto)]
+
 ghost use Rattle.std.specs.Prelude.{◌≡◌, true, ◌↔◌, ◌⊎◌, ◌≢◌, List, ℕ, ◌<◌, ◌≤◌, length, get_or};
 ghost use Rattle.tables.specs.Tables.{string_table};
 ghost use Rattle.strings.specs.Strings.{text_of, max_bytes};

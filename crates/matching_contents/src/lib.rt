@@ -1,4 +1,6 @@
 // What an element has: the number of its attributes, and its children as items.
+#![tactic(auto)]
+
 ghost use Rattle.std.specs.Prelude.{◌≡◌, true, cond, ◌+◌, ◌≤◌, ◌<◌, set};
 ghost use Rattle.instance.specs.Nodes.{is_child, is_attribute};
 ghost use Rattle.instance.specs.NodeRule.{max_nodes};

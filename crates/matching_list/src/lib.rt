@@ -1,4 +1,6 @@
 // The match list of tables that pass, from the table of pairs, and with it whether the instance is valid.
+#![tactic(auto)]
+
 ghost use Rattle.std.specs.Prelude.{◌≡◌, [], ◌∷◌, ◌+◌, ◌*◌, ◌≤◌, ◌<◌, length};
 ghost use Rattle.tables.specs.Answers.{Decides};
 ghost use Rattle.tables.specs.Tables.{string_table, tables_of};

@@ -1,4 +1,6 @@
 // What each pattern of a schema does with the attributes and the children of one element, as sets.
+#![tactic(auto)]
+
 ghost use Rattle.std.specs.Prelude.{◌≡◌, ◌+◌, ◌*◌, ◌≤◌, ◌<◌, eqb, length, get_or};
 ghost use Rattle.schema.specs.Rows.{kind_of, a_of, b_of};
 ghost use Rattle.instance.specs.Width.{max_width};

@@ -1,4 +1,6 @@
 // The pairs of an element and a definition that it matches.
+#![tactic(auto)]
+
 ghost use Rattle.std.specs.Prelude.{◌≡◌, true, cond, ◌↔◌, ◌+◌, ◌≤◌, ◌<◌, eqb, length, get_or, take};
 ghost use Rattle.tables.specs.Answers.{Decides};
 ghost use Rattle.tables.specs.Tables.{StringTable, string_table, tables_of};

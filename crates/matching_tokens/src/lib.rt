@@ -1,4 +1,6 @@
 // The tokens of a string against the pattern of a list, each row of the pattern visited once a token.
+#![tactic(auto)]
+
 ghost use Rattle.std.specs.Prelude.{◌≡◌, ◌&&◌, ◌||◌, [], ◌∷◌, ◌≤◌, ◌<◌, length, set};
 ghost use Rattle.tables.specs.Answers.{Decides};
 ghost use Rattle.tables.specs.Tables.{string_table};

@@ -1,4 +1,6 @@
 // The room of the lent work buffer: whether it is too short for the longest string that a list can meet.
+#![tactic(auto)]
+
 ghost use Rattle.std.specs.Prelude.{◌≡◌, List, ℕ, ◌≤◌, max, length};
 ghost use Rattle.tables.specs.Answers.{Decides, Finds};
 ghost use Rattle.tables.specs.Tables.{string_table, tables_of};

@@ -1,5 +1,7 @@
 // Relations on m positions as m words; a second relation starts at word POSITIONS. A caller shows that m is no more
 // than POSITIONS and that the words are there; a function writes the first m words only.
+#![tactic(auto)]
+
 ghost use Rattle.std.specs.Prelude.{◌≡◌, cond, ◌+◌, ◌^◌, ◌<◌};
 ghost use Rattle.std.specs.Int.Bits.{bit_or};
 ghost use Rattle.sets.specs.Bits.{positions, bit};

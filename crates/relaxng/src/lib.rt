@@ -1,4 +1,6 @@
 // The public calls.
+#![tactic(auto)]
+
 ghost use Rattle.std.specs.Prelude.{◌≡◌, length};
 ghost use Rattle.tables.specs.Outputs.{zeros};
 ghost use Rattle.tables.specs.Refusals.{Passes};

@@ -1,4 +1,6 @@
 // From the bytes of a job file to the bytes that `check` prints.
+#![tactic(auto)]
+
 ghost use Rattle.std.specs.Prelude.{◌*◌, ◌≤◌, length, take};
 ghost use Rattle.tables.specs.Tables.{string_table, tables_of};
 ghost use Rattle.job.specs.Reported.{match_text};

@@ -1,5 +1,7 @@
 // Schema rows: what a row of each kind holds, its children, what a field may hold, the size of a table, and the rows of
 // the definitions.
+#![tactic(auto)]
+
 ghost use Rattle.std.specs.Prelude.{◌≡◌, cond, ◌+◌, ◌≤◌, ◌<◌, length, set, drop};
 ghost use Rattle.tables.specs.Answers.{Finds};
 ghost use Rattle.schema.specs.Rows.{rows_of, kind_of, a_of, b_of, shape, shape_of, sort_of};

@@ -1,4 +1,6 @@
 // Name classes: membership with the row that says so, and the least name that two classes have in common.
+#![tactic(auto)]
+
 ghost use Rattle.std.specs.Prelude.{◌≡◌, ◌≤◌, ◌<◌};
 ghost use Rattle.tables.specs.Answers.{Decides};
 ghost use Rattle.schema.specs.Kinds as kind;

@@ -1,4 +1,6 @@
 // The restrictions of clauses 10.4 and 10.5 on attributes and interleave, by what occurs in a pattern: codes 7 and 8.
+#![tactic(auto)]
+
 ghost use Rattle.std.specs.Prelude.{◌≡◌, ◌<◌};
 ghost use Rattle.tables.specs.Answers.{Finds, Decides};
 ghost use Rattle.schema.specs.Kinds.{one_or_more};

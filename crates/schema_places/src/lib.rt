@@ -1,6 +1,8 @@
 // Where patterns and name classes may not stand: empty and notAllowed (code 3), anyName and nsName (code 4), and the
 // prohibited paths (code 5). A pass over the parents marks the rows that are out of place, or below a row of a kind, or
 // below marked rows; a search of the marks finds the first fault.
+#![tactic(auto)]
+
 ghost use Rattle.std.specs.Prelude.{◌≡◌, ◌≤◌, length};
 ghost use Rattle.tables.specs.Answers.{Decides, Finds};
 ghost use Rattle.schema.specs.Kinds.{one_or_more, list};

@@ -1,4 +1,6 @@
 // The chain of codes 2 to 8: the restrictions of clause 10 on a schema.
+#![tactic(auto)]
+
 ghost use Rattle.schema_restrictions.specs.Schema.{SchemaVerdict};
 
 use tables::{Checked, Verdict};

@@ -1,4 +1,6 @@
 // The restriction of clause 10.3 on string sequences, code 6.
+#![tactic(auto)]
+
 ghost use Rattle.std.specs.Prelude.{◌≡◌, ◌+◌, ◌<◌, max, eqb, cond, ◌&&◌, ◌||◌, ◌⊎◌};
 ghost use Rattle.tables.specs.Answers.{Finds, Decides};
 ghost use Rattle.tables.specs.Outputs.{zeros};

@@ -1,4 +1,6 @@
 // The program `check`: a job on standard input, its report on standard output.
+#![tactic(auto)]
+
 fn main() {
     // One byte more than a file may have, so that a file that is too long is seen to be.
     let mut file = [0u8; 65537];

@@ -1,0 +1,11 @@
+-- The invariant: the words passed are 0.
+use Prim.Native.Nat.{◌-◌}
+use lib.ListN.{length}
+use Rattle.tables.proofs.Fill.{Filled}
+use Rattle.tables.proofs.zero_u64.Given as goal
+
+abbrev pub invariant-loop-i : goal.invariant-loop-i
+invariant-loop-i l = Filled (length l.initial.longs) (λ k. 0) l.longs l.i
+
+abbrev pub decreases-loop-i : goal.decreases-loop-i
+decreases-loop-i l = length l.longs - l.i
