@@ -42,11 +42,11 @@ module _ (test : ℕ → Bool) where
       go (yes z) = rw z e
       go (no z) = f x h (omega arith)
 
-  selects_past : {a b : ℕ} {l : List ℕ} → test b ≡ false → Selects test b a l → Selects test (suc b) a l
+  selects_past : {b a : ℕ} {l : List ℕ} → test b ≡ false → Selects test b a l → Selects test (suc b) a l
   selects_past e (no_more f) = no_more (without_more f e)
   selects_past e (next h l f p s) = next h (omega arith) f p (selects_past e s)
 
-  selects_one : {a b : ℕ} {l : List ℕ} → a ≤ b → test b ≡ true
+  selects_one : {b a : ℕ} {l : List ℕ} → a ≤ b → test b ≡ true
       → Selects test b a l → Selects test (suc b) a (l ++ (b ∷ []))
   selects_one {b = b} m e (no_more f) = next m (omega arith) f e (selects_none (suc b) (suc b) (omega arith))
   selects_one m e (next h l f p s) = next h (omega arith) f p (selects_one l e s)
@@ -63,13 +63,13 @@ module _ (test : ℕ → Bool) where
       go false e before = rw append-nil (selects_past e before)
 
   -- the members are the rows that pass
-  selected : {a b : ℕ} {l : List ℕ} {x : ℕ} → Selects test b a l → Memᴰ x l → (a ≤ x) × (x < b) × (test x ≡ true)
+  selected : {b a : ℕ} {l : List ℕ} {x : ℕ} → Selects test b a l → Memᴰ x l → (a ≤ x) × (x < b) × (test x ≡ true)
   selected (next h l f p s) (Memᴰ.head e) = rw e (h, l, p)
   selected (next h l f p s) (Memᴰ.tail m) = let i = selected s m in (omega arith, i.1, i.2)
 
-  select : {a b : ℕ} {l : List ℕ} {x : ℕ} → Selects test b a l → a ≤ x → x < b → test x ≡ true → Memᴰ x l
+  select : {b a : ℕ} {l : List ℕ} {x : ℕ} → Selects test b a l → a ≤ x → x < b → test x ≡ true → Memᴰ x l
   select {x = x} (no_more f) m n e = absurd (true≢false (sym e ∙ f x m n))
-  select {a} {b} {x = x} (next {x = y} {l = l} h k f p s) m n e = go (dec_lt x y) (ℕ_discrete x y) (λ i. select s i n e)
+  select {a = a} {b = b} {x = x} (next {x = y} {l = l} h k f p s) m n e = go (dec_lt x y) (ℕ_discrete x y) (λ i. select s i n e)
     where
       go : Dec (x < y) → Dec (x ≡ y) → (suc y ≤ x → Memᴰ x l) → Memᴰ x (y ∷ l)
       go (yes i) d ih = absurd (true≢false (sym e ∙ f x m i))
@@ -136,7 +136,7 @@ module _ {strings : ℕ} {t : List ℕ} (right : NodesRight strings t) (e : ℕ)
   after_element i (last_text k) = without_row
   after_element {r} i (text_row k j a) = absurd (omega (arith, eqb-true (kind_of t r) element i))
 
-  alternates : {a b : ℕ} {l : List ℕ} → Selects (is_child t e) b a l → Alternate t l
+  alternates : {b a : ℕ} {l : List ℕ} → Selects (is_child t e) b a l → Alternate t l
   alternates (no_more f) = without_row
   alternates {b = b} (next {x = x} {l = l} h k f c s) = go (child_kinds t e x c) s (alternates s)
     where

@@ -149,7 +149,7 @@ pub data Upward (s : List ℕ) (a : ℕ) : ℕ → Type 0 where
 
 module _ {s : List ℕ} where
   -- one step more at the top
-  pub upward_more : {i a b : ℕ} → Child s a b → Upward s a i → Upward s b i
+  pub upward_more : {a i b : ℕ} → Child s a b → Upward s a i → Upward s b i
   upward_more c arrived = upward c arrived
   upward_more c (upward d u) = upward d (upward_more c u)
 
@@ -157,7 +157,7 @@ module _ {s : List ℕ} where
   below_upward (child c) = upward c arrived
   below_upward (deeper c b) = upward_more c (below_upward b)
 
-  pub upward_less : {i a : ℕ} → Upward s a i → i ≤ a
+  pub upward_less : {a i : ℕ} → Upward s a i → i ≤ a
   upward_less arrived = omega arith
   upward_less (upward c u) = omega (arith, child_less c, upward_less u)
 
@@ -168,7 +168,7 @@ module _ {strings : ℕ} {s : List ℕ} (right : RowsRight strings s) where
   parent_upward {a = a} c (upward d u) = inr (subst (Upward s a) (one_parent right d c) u)
 
   -- of two rows above a row one is above the other
-  pub in_line : {i a b : ℕ} → Upward s a i → Upward s b i → Upward s a b ⊎ Upward s b a
+  pub in_line : {a i b : ℕ} → Upward s a i → Upward s b i → Upward s a b ⊎ Upward s b a
   in_line arrived v = inr v
   in_line {a = a} {b = b} (upward {i = i} {j = j} c u) v = go (λ w. in_line u w) (parent_upward c v)
     where
