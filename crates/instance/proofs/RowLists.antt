@@ -64,12 +64,13 @@ module _ (test : ℕ → Bool) where
 
   -- the members are the rows that pass
   selected : {b a : ℕ} {l : List ℕ} {x : ℕ} → Selects test b a l → Memᴰ x l → (a ≤ x) × (x < b) × (test x ≡ true)
+  selected {b = b} (no_more {a = a} _) m = elim m [ ]
   selected (next h l f p s) (Memᴰ.head e) = rw e (h, l, p)
   selected (next h l f p s) (Memᴰ.tail m) = let i = selected s m in (omega arith, i.1, i.2)
 
   select : {b a : ℕ} {l : List ℕ} {x : ℕ} → Selects test b a l → a ≤ x → x < b → test x ≡ true → Memᴰ x l
   select {x = x} (no_more f) m n e = absurd (true≢false (sym e ∙ f x m n))
-  select {a = a} {b = b} {x = x} (next {x = y} {l = l} h k f p s) m n e = go (dec_lt x y) (ℕ_discrete x y) (λ i. select s i n e)
+  select {b = b} {a = a} {x = x} (next {x = y} {l = l} h k f p s) m n e = go (dec_lt x y) (ℕ_discrete x y) (λ i. select s i n e)
     where
       go : Dec (x < y) → Dec (x ≡ y) → (suc y ≤ x → Memᴰ x l) → Memᴰ x (y ∷ l)
       go (yes i) d ih = absurd (true≢false (sym e ∙ f x m i))

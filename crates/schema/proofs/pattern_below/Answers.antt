@@ -1,0 +1,10 @@
+-- A smaller row that is a pattern.
+use mathlib.Core.Path.{◌∙◌}
+use borrow.Author.Tests.{lt-ltb, le-ltb}
+use Rattle.schema.proofs.pattern_below.Goals as goal
+
+pub returns-then-x-p : goal.returns-then-x-p
+returns-then-x-p c = c.is_pattern.ensures ∙ rw (lt-ltb _ _ c.if-x-p.true, c.sort_at.ensures)
+
+pub returns-else-x-p : goal.returns-else-x-p
+returns-else-x-p c = rw (le-ltb _ _ c.if-x-p.false)
