@@ -21,7 +21,7 @@ ghost use Rattle.schema_places.specs.Prohibited.{is_prohibited, MarkedKind, Proh
 use tables::Checked;
 
 // Which rows mark those below them: the rows of a kind, or the groups and interleaves that a table marks.
-#[derive(Drop)]
+#[derive(Clone, Copy)]
 enum Source {
     OfKind(u32),
     MarkedSharing,
@@ -114,7 +114,7 @@ pub fn mark_listed(schema: &[u32], below: &mut [u32])
 
 // The kinds that are prohibited at a marked row: any kind, or what may not stand below an anyName, an nsName,
 // an attribute, a group or interleave in a oneOrMore, a list, a data, the start.
-#[derive(Drop)]
+#[derive(Clone, Copy)]
 enum Prohibition {
     AnyKind,
     NotInAnyName,
