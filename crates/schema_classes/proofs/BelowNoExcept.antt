@@ -43,7 +43,7 @@ module _ {s : List ℕ} where
   in_child {c = c} h (inl e) = inr (child (subst (λ (x : ℕ). Child s x c) (sym e) h))
   in_child h (inr b) = inr (deeper h b)
 
-  up_more : {r b c : ℕ} → Upward s b r → Upward s c b → Upward s c r
+  up_more : {b r c : ℕ} → Upward s b r → Upward s c b → Upward s c r
   up_more arrived v = v
   up_more (upward h u) v = upward h (up_more u v)
 
@@ -79,8 +79,8 @@ again : {s : List ℕ} {c d r : ℕ} (x : InExcept s c r) → In s x.of d → In
 again x i =
     record { of = x.of; except = x.except; within = i; kind = x.kind; child = x.child; inside = x.inside }
 
-pub lies_if : {s : List ℕ} {c r : ℕ} → is_class (sort_of s c) ≡ true → In s r c → ¬ InExcept s c r → Lies s r c
-lies_if {s} {c} k (inl e) n = subst (λ (x : ℕ). Lies s x c) (sym e) itself
+pub lies_if : {s : List ℕ} {r c : ℕ} → is_class (sort_of s c) ≡ true → In s r c → ¬ InExcept s c r → Lies s r c
+lies_if {s = s} {c = c} k (inl e) n = subst (λ (x : ℕ). Lies s x c) (sym e) itself
 lies_if k (inr (child h)) n = within (has_member k h (inl refl) n) h itself
 lies_if k (inr (deeper h b)) n =
     let j = has_member k h (inr b) n in
@@ -105,7 +105,7 @@ module _ {strings : ℕ} {s : List ℕ} (right : RowsRight strings s) where
       go (inr (child d)) = step d (inl refl)
       go (inr (deeper d b)) = step d (inr b)
 
-  lies_outside : {c r : ℕ} → Lies s r c → ¬ InExcept s c r
+  lies_outside : {r c : ℕ} → Lies s r c → ¬ InExcept s c r
   lies_outside itself x = omega (arith, in_low x.inside, child_less x.child, in_low x.within)
   lies_outside (within k h l) x = member_outside k h (lies_in_class l) (lies_outside l) x
 

@@ -16,21 +16,21 @@ ghost use Rattle.schema_classes.specs.Search.{ToldApart, SmallerToldApart, Least
 
 // Whether a name is in a class, and the row that says so: for yes the smallest that takes the name in, for no the
 // smallest except class that shuts it out, or NO_ROW where none does.
-#[derive(Drop)]
+#[derive(Clone, Copy)]
 pub enum Member {
     Yes(u32),
     No(u32),
 }
 
 // A name, or none.
-#[derive(Drop)]
+#[derive(Clone, Copy)]
 pub enum Found {
     Name(u32, u32),
     Nothing,
 }
 
 // A part of a name: the namespace, or the local number beside a namespace.
-#[derive(Drop)]
+#[derive(Clone, Copy)]
 enum Part {
     Namespace,
     LocalBeside(u32),

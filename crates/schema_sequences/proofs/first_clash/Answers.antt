@@ -1,0 +1,7 @@
+-- The rows below a list are marked before the rows are judged.
+use mathlib.Core.Path.{refl}
+use Rattle.schema.proofs.RowLaws.{few_rows}
+use Rattle.schema_sequences.proofs.first_clash.Goals as goal
+
+pub mark_listed-requires : goal.mark_listed-requires
+mark_listed-requires c = record { few = few_rows c.requires; room = refl }
