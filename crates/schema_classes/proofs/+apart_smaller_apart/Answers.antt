@@ -1,18 +1,7 @@
 -- The measure of a class is above that of its members, and that of a member above those of the classes at smaller rows.
 use native.Mathlib.Omega.{arith}
-use Rattle.schema_classes.proofs.Holds.{Read}
 use Rattle.schema_classes.proofs.LeastNames.{name_apart, choice_apart, member_apart}
 use Rattle.schema_classes.proofs.+apart_smaller_apart.Goals as goal
-
-read :
-    (c : apart-lts.After-kind apart-calls apart-at apart.Post) →
-    Read c.before.before.before.before.args.schema.now c.before.before.before.before.args.row
-    c.kind.result c.before.before.field_a.result c.before.field_b.result
-read c = record {
-  kind = c.kind.ensures;
-  first = c.before.before.field_a.ensures;
-  second = c.before.field_b.ensures;
-}
 
 pub apart-smaller_apart-requires : goal.apart-smaller_apart-requires
 apart-smaller_apart-requires t c = (omega arith, tt)
@@ -21,11 +10,20 @@ pub apart-smaller_apart-requires-then-smaller_apart : goal.apart-smaller_apart-r
 apart-smaller_apart-requires-then-smaller_apart t c = (omega arith, tt)
 
 pub apart-returns-in-18 : goal.apart-returns-in-18
-apart-returns-in-18 t c = name_apart _ _ _ (read c) c.in-18.is c.in_class.result c.in_class.ensures
+apart-returns-in-18 t c =
+    name_apart _ _ _ ((record {
+      kind = c.kind.ensures;
+      first = c.field_a-a.ensures;
+      second = c.field_b-b.ensures;
+    })) c.in-18.is c.in_class.result c.in_class.ensures
 
 pub apart-returns-then-smaller_apart : goal.apart-returns-then-smaller_apart
 apart-returns-then-smaller_apart t c =
-    choice_apart _ _ _ (read c) c.in-19.is
+    choice_apart _ _ _ ((record {
+      kind = c.kind.ensures;
+      first = c.field_a-a.ensures;
+      second = c.field_b-b.ensures;
+    })) c.in-19.is
     (rw c.if-smaller_apart.true at c.smaller_apart.ensures)
     c.smaller_apart-then-smaller_apart.result c.smaller_apart-then-smaller_apart.ensures
 

@@ -1,11 +1,9 @@
 -- The measure of a class is above that of its members, and that of a member above those of the classes at smaller rows.
-use Prim.Native.Nat.{ℕ, ◌*◌, ◌+◌}
+use Prim.Native.Nat.{◌*◌, ◌+◌}
 use Rattle.schema_classes.proofs.+apart_smaller_apart.Given as goal
 
--- MEASURE apart
-abbrev μ-apart : Measures 1 apart-kinds.ps ℕ
-μ-apart κs a = 2 * a.1.0 + 1
+abbrev pub decreases-apart : goal.decreases-apart
+decreases-apart l = 2 * l.row + 1
 
--- MEASURE smaller-apart
-abbrev μ-smaller-apart : Measures 1 smaller-apart-kinds.ps ℕ
-μ-smaller-apart κs a = 2 * a.1.0
+abbrev pub decreases-smaller_apart : goal.decreases-smaller_apart
+decreases-smaller_apart l = 2 * l.parent

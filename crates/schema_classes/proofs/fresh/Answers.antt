@@ -15,10 +15,10 @@ loop-number-preserved c =
     (arith, count_low c.requires _ _ c.args.part inv, least_small c.args.part)) c.loop-number-test.true)
 
 pub overflow_add-number : goal.overflow_add-number
-overflow_add-number c = omega (arith, count_low c.requires _ _ c.args.part (loop-again c), least_small c.args.part)
+overflow_add-number c = omega (arith, count_low c.requires _ _ c.args.part (loop-number-preserved c), least_small c.args.part)
 
 pub loop-number-smaller : goal.loop-number-smaller
-loop-number-smaller c = omega (arith, count_low c.requires _ _ c.args.part (loop-again c))
+loop-number-smaller c = omega (arith, count_low c.requires _ _ c.args.part (loop-number-preserved c))
 
 pub returns : goal.returns
 returns c =

@@ -16,12 +16,11 @@ pub loop-local-init : goal.loop-local-init
 loop-local-init c = passed_start c.least_of-local.ensures (omega arith) no_local_zero
 
 pub returns-then-both_hold : goal.returns-then-both_hold
-returns-then-both_hold c =
-    (
-      refl,
-      said_yes c.both_hold.ensures c.if-both_hold.true,
-      passed_clear c.loop-local.invariant (local_stands c.requires _ _ _),
-    )
+returns-then-both_hold c = (
+  refl,
+  said_yes c.both_hold.ensures c.if-both_hold.true,
+  passed_clear c.loop-local.invariant (local_stands c.requires _ _ _),
+)
 
 pub next_number-local-requires : goal.next_number-local-requires
 next_number-local-requires c = (c.fresh-fresh.ensures, omega arith)

@@ -40,8 +40,7 @@ pub loop-r-smaller : goal.loop-r-smaller
 loop-r-smaller c = omega (arith, c.loop-r-test.true)
 
 pub loop-r-preserved : goal.loop-r-preserved
-loop-r-preserved c =
-    (
+loop-r-preserved c = (
   omega (arith, c.loop-r-test.true),
   c.judge_row.ensures.1,
   below_more _ _ c.loop-r.invariant.2
