@@ -187,7 +187,7 @@ fn only_string(items: &[u32], n: u32) -> u32
 
 // What stands for a content: the first `count` items, of which `texts` are strings and k are asked for; weak says that
 // they are whitespace.
-#[derive(Drop)]
+#[derive(Clone, Copy)]
 struct Content {
     count: u32,
     texts: u64,

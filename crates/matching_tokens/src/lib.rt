@@ -15,7 +15,7 @@ ghost use Rattle.matching_tokens.specs.Tokens.{OneToken, TokenPlaces, PlaceRoom,
 ghost use Rattle.matching_tokens.specs.Tokens.{NothingUpTo, ListReady, TokensMatch};
 
 // Where a part of a text begins and ends.
-#[derive(Drop)]
+#[derive(Clone, Copy)]
 struct Stretch {
     from: usize,
     to: usize,

@@ -47,7 +47,7 @@ fn infinite_child(schema: &[u32], parent: u32, child: u32) -> bool
 
 // What is looked for in a pattern: text; an attribute, or a ref to an element, that shares a name with a class; one
 // that shares a name with one in another pattern.
-#[derive(Drop)]
+#[derive(Clone, Copy)]
 enum Wanted {
     Text,
     AttributeSharing(u32),
