@@ -50,8 +50,8 @@ module _ (table definitions : List ℕ) where
   if_member e d y = go (is_marked table e d) refl
     where
       go : (b : Bool) → is_marked table e d ≡ b → Memᴰ y (cond b ((e, d) ∷ []) []) → At e d y
-      go true f m = ⊎_elim (λ z. (z, f)) (λ n. absurd (Memᴰ.not_nil n)) (Memᴰ.cases_cons m)
-      go false f m = absurd (Memᴰ.not_nil m)
+      go true f m = ⊎_elim (λ z. (z, f)) (λ n. absurd (Memᴰ.not-nil n)) (Memᴰ.cases_cons m)
+      go false f m = absurd (Memᴰ.not-nil m)
 
   if_rising : (e d : ℕ) → Rising (pair_if table e d)
   if_rising e d = go (is_marked table e d)
@@ -63,7 +63,7 @@ module _ (table definitions : List ℕ) where
   row_member : (e n : ℕ) (y : ℕ × ℕ) → Memᴰ y (row_pairs table definitions e n)
       → (k : ℕ) × (k < n) × At e (get_or definitions k 0) y
   unfolding row_pairs
-  row_member e zero y m = absurd (Memᴰ.not_nil m)
+  row_member e zero y m = absurd (Memᴰ.not-nil m)
   row_member e (suc n) y m =
       ⊎_elim
       (λ i. let r = row_member e n y i in let l = r.1 in (r.0, omega arith, r.2))
@@ -105,7 +105,7 @@ module _ (table definitions : List ℕ) where
     marked_member : (n : ℕ) (y : ℕ × ℕ) → Memᴰ y (marked_pairs table definitions n)
         → (e : ℕ) × (e < n) × (k : ℕ) × (k < length definitions) × At e (get_or definitions k 0) y
     unfolding marked_pairs
-    marked_member zero y m = absurd (Memᴰ.not_nil m)
+    marked_member zero y m = absurd (Memᴰ.not-nil m)
     marked_member (suc n) y m =
         ⊎_elim
         (λ i. let r = marked_member n y i in let l = r.1 in (r.0, omega arith, r.2, r.3, r.4))

@@ -86,9 +86,9 @@ module _ (s : List ℕ) (p q : ℕ) (o : connective (kind_of s p) ≡ true) wher
   child_type i (choice_type e t u) = side t u (omega arith) (omega arith) i
 
 -- what occurs in a pattern with a type has one, and not a greater one
-type_inside : {s : List ℕ} {p r c : ℕ} → Occurs s r p → HasType s p c → TypedUpTo s c r
+type_inside : {s : List ℕ} {r p c : ℕ} → Occurs s r p → HasType s p c → TypedUpTo s c r
 type_inside {c = c} itself t = (c, t, omega arith)
-type_inside {s} {p} (within {q = q} o i h) t =
+type_inside {s = s} {p = p} (within {q = q} o i h) t =
     let u = child_type s p q o i t in
     let v = type_inside h u.1 in
     (v.0, v.1, omega arith)

@@ -41,11 +41,13 @@ swap (left x s) = right x (swap s)
 swap (right x s) = left x (swap s)
 
 pub among_first : {y : Item} {m l r : List Item} → Shuffle m l r → Among y l → Among y m
+among_first {y = y} done h = elim h [ ]
 among_first (left x s) (first e) = first e
 among_first (left x s) (later h) = later (among_first s h)
 among_first (right x s) h = later (among_first s h)
 
 pub among_either : {y : Item} {m l r : List Item} → Shuffle m l r → Among y m → Among y l ⊎ Among y r
+among_either {y = y} done x5 = elim x5 [ ]
 among_either (left x s) (first e) = inl (first e)
 among_either (right x s) (first e) = inr (first e)
 among_either (left x s) (later h) = elim (among_either s h) [ inl k ↦ inl (later k) | inr k ↦ inr k ]

@@ -93,6 +93,9 @@ module _ (L : Lookups) where
 
       reached : {a : Attributes} {m : List Item} {x : Pattern} → Match L NotMatch a m x
           → ((y : Item) → Among y m → Good y) → (y : Item) → Among y m → Reaches L (T y) x
+      reached empty g y h = elim h [ ]
+      reached text_1 g y h = elim h [ ]
+      reached (attribute {nc = nc} {p = p} _ _ _) g y h = elim h [ ]
       reached (choice_1 {p₁ = p} d) g y h = there p choice_first (reached d g y h)
       reached (choice_2 {p₂ = p} d) g y h = there p choice_second (reached d g y h)
       reached (group {m₁ = l} {m₂ = r} {p₁ = p₁} {p₂ = p₂} d₁ d₂) g y h =

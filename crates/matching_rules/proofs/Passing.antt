@@ -182,7 +182,7 @@ module _ {strings : ℕ} (J : Tables) (pass : SchemaPasses strings J.schema) whe
       omega (arith, simple_type_lem w.1 h)
 
   -- what occurs in a row that is below no list is below none
-  occurs_outside : {p r : ℕ} → ¬ InList s p → Occurs s r p → ¬ InList s r
+  occurs_outside : {r p : ℕ} → ¬ InList s p → Occurs s r p → ¬ InList s r
   occurs_outside out itself = out
   occurs_outside out (within k c o) =
       occurs_outside (child_outside pass.rows c (λ e. false≢true (sym (ap connective e) ∙ k)) out) o

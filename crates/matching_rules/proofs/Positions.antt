@@ -1,5 +1,5 @@
 -- A run by its positions: its members, and when it is empty, one item, or strings alone.
-use Prim.Native.Nat.{ℕ, suc, ◌+◌, ◌-◌, ◌≤◌, ◌<◌}
+use Prim.Native.Nat.{zero, ℕ, suc, ◌+◌, ◌-◌, ◌≤◌, ◌<◌}
 use mathlib.Core.Path.{◌≡◌, refl, ap, ap₂, sym, ◌∙◌}
 use mathlib.Core.Bool.{Bool, true, false, true≢false}
 use mathlib.Core.List.{List, [], ◌∷◌, ◌++◌, cons≢nil, tail-eq_of_cons-eq}
@@ -31,6 +31,7 @@ module _ (it : ℕ → Item) (K : ℕ → Bool) where
 
   pub among_run : {y : Item} (i n : ℕ) → Among y (run it K i n) → At i (i + n) y
   unfolding run
+  among_run {y = y} i zero h = elim h [ ]
   among_run {y} i (suc n) h = go (K i) refl h (among_run (suc i) n)
     where
       wider : At (suc i) (suc i + n) y → At i (i + suc n) y

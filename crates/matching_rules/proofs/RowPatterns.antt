@@ -250,7 +250,7 @@ under {s} {p} d (inl e) = child (subst (λ m. Child s m p) (sym e) d)
 under d (inr b) = deeper d b
 
 -- what occurs in p is p or below it
-pub occurs_below : {s : List ℕ} {p r : ℕ} → Occurs s r p → (r ≡ p) ⊎ Below s r p
+pub occurs_below : {s : List ℕ} {r p : ℕ} → Occurs s r p → (r ≡ p) ⊎ Below s r p
 occurs_below itself = inl refl
 occurs_below (within c d o) = inr (under d (occurs_below o))
 

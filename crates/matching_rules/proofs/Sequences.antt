@@ -25,6 +25,7 @@ among_right [] h = h
 among_right (x ∷ l) h = later (among_right l h)
 
 pub among_one : {x y : Item} → Among y (x ∷ []) → x ≡ y
+among_one {y = y} (later x5) = elim x5 [ ]
 among_one (first e) = e
 
 pub nothing_among : (m : List Item) → ((y : Item) → ¬ Among y m) → m ≡ []

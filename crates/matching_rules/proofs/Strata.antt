@@ -10,7 +10,7 @@ use Rattle.schema.specs.Views.{Pattern, data_except, no_pattern}
 use Rattle.matching_rules.specs.Items.{Item, string, Attributes, no_attributes, Lookups}
 use Rattle.matching_rules.specs.Rules.{Match, choice_1, choice_2, value, data_1, data_2, NotMatchBy, Matches}
 use Rattle.matching_rules.specs.Reach.{Subpattern, operand, choice_first, choice_second, of_except}
-use Rattle.matching_rules.specs.Restricted.{Restricted, Plain, plain_value}
+use Rattle.matching_rules.specs.Restricted.{plain_not_allowed, Restricted, Plain, plain_value}
 use Rattle.matching_rules.specs.Restricted.{plain_data, plain_except, plain_choice}
 
 module _ {L : Lookups} (R : Restricted L) where
@@ -19,6 +19,7 @@ module _ {L : Lookups} (R : Restricted L) where
       (N M : List ℕ → ℕ → Type 0) (b : ℕ) → ((s : List ℕ) (r : ℕ) → Plain L (L.pattern r) → r < b → N s r → M s r)
       → {a : Attributes} {m : List Item} {x : Pattern} → Plain L x
       → ((q : ℕ) → Subpattern q x → q < b) → Match L N a m x → Match L M a m x
+  change N M b h {a = a} {m = m} plain_not_allowed l x7 = elim x7 [ ]
   change N M b h plain_value l (value e) = value e
   change N M b h plain_data l data_1 = data_1
   change N M b h (plain_except {p = p} k) l (data_2 {s = s} n) = data_2 (h s p k (l p of_except) n)

@@ -23,6 +23,7 @@ rising_rest (rising_more h r) = r
 
 -- the first pair precedes the others
 first_precedes : {x y : ℕ × ℕ} {l : List (ℕ × ℕ)} → Rising (x ∷ l) → Memᴰ y l → Precedes x y
+first_precedes {y = y} rising_one x8 = elim x8 [ ]
 first_precedes {x} {y} (rising_more {y = z} h r) (Memᴰ.head e) = subst (Precedes x) (sym e) h
 first_precedes {x} {y} (rising_more {y = z} h r) (Memᴰ.tail m) = precedes_trans x z y h (first_precedes r m)
 
@@ -38,8 +39,8 @@ inside_rest {x} {y} {l} {m} e r i z h =
 
 same_members : (l m : List (ℕ × ℕ)) → Rising l → Rising m → Inside l m → Inside m l → l ≡ m
 same_members [] [] r q i j = refl
-same_members [] (y ∷ m) r q i j = absurd (Memᴰ.not_nil (j y (Memᴰ.head refl)))
-same_members (x ∷ l) [] r q i j = absurd (Memᴰ.not_nil (i x (Memᴰ.head refl)))
+same_members [] (y ∷ m) r q i j = absurd (Memᴰ.not-nil (j y (Memᴰ.head refl)))
+same_members (x ∷ l) [] r q i j = absurd (Memᴰ.not-nil (i x (Memᴰ.head refl)))
 same_members (x ∷ l) (y ∷ m) r q i j =
     ap₂ ◌∷◌ first
     (same_members l m (rising_rest r) (rising_rest q) (inside_rest first r i) (inside_rest (sym first) q j))

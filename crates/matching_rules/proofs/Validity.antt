@@ -52,6 +52,7 @@ module _ {strings : ℕ} (J : Tables) (pass : SchemaPasses strings J.schema) whe
   -- what matches a pattern below start matches a ref that stands there
   valid_to : {a : Attributes} {m : List Item} {x : Pattern} → Starts L x → (p : ℕ) → pattern_of s p ≡ x
       → Below s p (rows_of s - 1) → Matches L a m x → (d : ℕ) × StartNames J d × Matches L a m (ref d)
+  valid_to {a = a} {m = m} starts_not_allowed p f b x9 = elim x9 [ ]
   valid_to (starts_ref {d = d}) p f b (rule.element e i o c w w₁ w₂) =
       let k = from_ref (row_makes s p f) in
       (d, by_ref p b k.0 k.1, rule.element e i o c w w₁ w₂)
