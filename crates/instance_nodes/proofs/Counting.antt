@@ -54,7 +54,8 @@ wide k a c = eqb k element && (ltb max_width a || ltb max_width c)
 
 module _ (t : List ℕ) (e : ℕ) where
   is_wide : e < nodes_of t → (x y z : Bool) → eqb (kind_of t e) element ≡ x
-      → ltb max_width (how_many (is_attribute t e) (nodes_of t)) ≡ y → ltb max_width (how_many (is_child t e) (nodes_of t)) ≡ z
+      → ltb max_width (how_many (is_attribute t e) (nodes_of t)) ≡ y
+      → ltb max_width (how_many (is_child t e) (nodes_of t)) ≡ z
       → Decides (WidthFault t e) (x && (y || z))
   is_wide l true true z p q s = many_attributes l (eqb-true _ _ p) (ltb-true _ _ q)
   is_wide l true false true p q s = many_children l (eqb-true _ _ p) (ltb-true _ _ s)

@@ -17,7 +17,8 @@ use Rattle.job.specs.Ascii.{ascii}
 use Rattle.job.specs.Numbers.{number_of, word_of, hex_bytes}
 use Rattle.job.specs.Lines.{lines_of, is_ended, fields_of, after}
 use Rattle.job.specs.Reading.{no_tables, Reading, read, wrong, max_file, and_then, line_by, line, lines, literal}
-use Rattle.job.specs.Reading.{count, add_string, words_of, row_of, add_row, add_node, nothing_more, read_lines, read_job}
+use Rattle.job.specs.Reading.{count, add_string, words_of, row_of, add_row, add_node, nothing_more, read_lines}
+use Rattle.job.specs.Reading.{read_job}
 
 -- a reading that is right is not wrong
 pub not_wrong : {n : ℕ} {t : Tables} → wrong n ≡ read t → ⊥
@@ -28,7 +29,8 @@ none_some e = let z : ◌≡◌ {A = ℕ} 0 1 = cc in omega arith
 
 -- what came of two steps
 module _ {A B : Type 0} where
-  then_some : (o : Option A) {f : A → Option B} {b : B} → and_then o f ≡ some b → (a : A) × (o ≡ some a) × (f a ≡ some b)
+  then_some : (o : Option A) {f : A → Option B} {b : B} → and_then o f ≡ some b → (a : A) × (o ≡ some a)
+      × (f a ≡ some b)
   then_some none e = absurd (none_some e)
   then_some (some a) e = (a, refl, e)
 

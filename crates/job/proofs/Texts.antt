@@ -1,20 +1,20 @@
 -- Lines, fields, keys and hexadecimal digits that were written read back.
-use mathlib.Core.Path.{◌≡◌, refl, sym, ◌∙◌, ap}
+use mathlib.Core.Path.{◌≡◌, refl, ◌∙◌, ap}
 use mathlib.Core.Logic.{◌≢◌, ⊎_elim}
-use mathlib.Core.Bool.{Bool, true, false, cond, ◌&&◌, false≢true}
+use mathlib.Core.Bool.{Bool, true, false, false≢true}
 use mathlib.Core.List.{List, [], ◌∷◌, ◌++◌, map}
-use mathlib.Core.Option.{Option, some}
-use Prim.Native.Nat.{ℕ, zero, suc, ◌+◌, ◌-◌, ◌*◌, ◌/◌, ◌%◌, ◌<◌, ◌≤◌}
+use mathlib.Core.Option.{some}
+use Prim.Native.Nat.{ℕ, suc, ◌+◌, ◌-◌, ◌*◌, ◌/◌, ◌%◌, ◌<◌, ◌≤◌}
 use native.Mathlib.Nat.{div-add-mod'}
 use native.Mathlib.Omega.{arith}
 use lib.ListN.{length}
-use lib.Dec.{ltb, leb, eqb}
+use lib.Dec.{leb, eqb}
 use borrow.Author.Tests.{lt-ltb, le-ltb, le-leb, lt-leb, eq-eqb, ne_eqb, leb-true}
 use Rattle.instance.proofs.Order.{and_parts}
-use Rattle.job.specs.Numbers.{largest_word, decimal_by, decimal, word_text, words_text, hex_digit, hex_text}
-use Rattle.job.specs.Numbers.{Words, Bytes, is_digit, all_digits, word_of, hex_value, hex_pair, hex_bytes}
-use Rattle.job.specs.Lines.{line_feed, comma, text_of_lines, in_front, lines_of, is_ended, fields_of, after}
-use Rattle.job.specs.Reading.{words_of, and_then}
+use Rattle.job.specs.Numbers.{largest_word, decimal, word_text, words_text, hex_digit, hex_text}
+use Rattle.job.specs.Numbers.{Words, Bytes, is_digit, all_digits, hex_value, hex_bytes}
+use Rattle.job.specs.Lines.{line_feed, comma, text_of_lines, lines_of, is_ended, fields_of, after}
+use Rattle.job.specs.Reading.{words_of}
 use Rattle.job.proofs.Decimals.{lt_or_ge, all_digits_lem, word_back}
 
 -- a byte does not occur in a text

@@ -1,5 +1,6 @@
 -- Numbers and strings in a job file: decimal words, with `-` for the largest, and pairs of hexadecimal digits.
-use Rattle.std.specs.Prelude.{ℕ, zero, suc, ◌+◌, ◌-◌, ◌*◌, ◌/◌, ◌%◌, ◌≤◌, ◌<◌, Bool, true, false, not, cond, ◌&&◌, List, [], ◌∷◌, ◌++◌, ltb, leb, eqb}
+use Rattle.std.specs.Prelude.{ℕ, zero, suc, ◌+◌, ◌-◌, ◌*◌, ◌/◌, ◌%◌, ◌≤◌, ◌<◌, Bool, true, false, not, cond, ◌&&◌, List}
+use Rattle.std.specs.Prelude.{[], ◌∷◌, ◌++◌, ltb, leb, eqb}
 use Rattle.std.proofs.Math.Option.{Option, none, some}
 
 -- `-` of FORMAT, "Job file", and the largest number that is written in digits

@@ -2,6 +2,5 @@
 // proofs/. There is no function here.
 #![tactic(auto)]
 
-
 // The longest file.
 pub const MAX_FILE: usize = 65536;

@@ -23,10 +23,12 @@ use Rattle.job_texts.proofs.Writing.{wrote_none, wrote_more, wrote_as}
 pub text_append : (a b : List (List ℕ)) → text_of_lines (a ++ b) ≡ text_of_lines a ++ text_of_lines b
 text_append [] b = refl
 text_append (l ∷ a) b =
-    ap (λ t. l ++ line_feed ∷ t) (text_append a b) ∙ sym (append_assoc l (line_feed ∷ text_of_lines a) (text_of_lines b))
+    ap (λ t. l ++ line_feed ∷ t) (text_append a b)
+    ∙ sym (append_assoc l (line_feed ∷ text_of_lines a) (text_of_lines b))
 
 pub wrote_lines : {out : List ℕ} {at : ℕ} (a b : List (List ℕ)) {mid : List ℕ} {p : ℕ} {end : List ℕ} {q : ℕ}
-    → Wrote out at (text_of_lines a) mid p → Wrote mid p (text_of_lines b) end q → Wrote out at (text_of_lines (a ++ b)) end q
+    → Wrote out at (text_of_lines a) mid p → Wrote mid p (text_of_lines b) end q
+    → Wrote out at (text_of_lines (a ++ b)) end q
 wrote_lines a b w v = wrote_as (sym (text_append a b)) (wrote_more w v)
 
 pub wrote_line : {out : List ℕ} {at : ℕ} (l : List ℕ)

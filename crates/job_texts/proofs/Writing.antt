@@ -85,7 +85,8 @@ pub front_done : {text : List ℕ → List ℕ} {out : List ℕ} {at : ℕ} {l n
     → Front text out at l now i p → length l ≤ i → Wrote out at (text l) now p
 front_done {text} {l = l} {i = i} f h = wrote_as (ap text (take_all i l h)) f.wrote
 
-pub hex_append : (l : List ℕ) (b : ℕ) → hex_text (l ++ b ∷ []) ≡ hex_text l ++ hex_digit (b / 16) ∷ hex_digit (b % 16) ∷ []
+pub hex_append : (l : List ℕ) (b : ℕ)
+    → hex_text (l ++ b ∷ []) ≡ hex_text l ++ hex_digit (b / 16) ∷ hex_digit (b % 16) ∷ []
 hex_append [] b = refl
 hex_append (c ∷ l) b = ap (λ r. hex_digit (c / 16) ∷ hex_digit (c % 16) ∷ r) (hex_append l b)
 
