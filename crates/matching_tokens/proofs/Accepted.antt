@@ -76,6 +76,7 @@ only_first t = record { since = here refl refl; only = go }
   where
     go : (l : Tokens) → Since (read true t ∷ []) l → l ≡ t ∷ []
     go l (here o f) = rw f
+    go l (later s) = elim s [ ]
 
 only_next : (t : List ℕ) {h : List Read} {m : Tokens} → Only h m → Only (read false t ∷ h) (t ∷ m)
 only_next t {h} {m} o = record { since = later o.since; only = go }

@@ -104,6 +104,7 @@ completes_leaf takes = record { sound = found; complete = every }
 
     every : (h : List Read) (m : Tokens) → Since h m
         → (t : List ℕ) × (m ≡ t ∷ []) × (takes t ≡ true) → taken takes h ≡ true
+    every [] m s _ = elim s [ ]
     every (read e t ∷ h) m (here o f) (u, g, k) = both_and o (subst (λ (x : List ℕ). takes x ≡ true) (cc g) k)
     every (read e t ∷ h) m (later s) (u, g, k) = absurd (since_some s (cc g))
 
@@ -124,6 +125,7 @@ module _ {D E : List Read → Bool} {P Q : Tokens → Type 0} (c : Completes D P
   module _ (free shut : Bool) (first-free : (free ≡ true) ↔ P []) (second-free : (shut ≡ true) ↔ Q []) where
     -- what the second reads lies behind a sequence of the first
     behind_first : (h : List Read) {m : Tokens} → Since (second free D h) m → Before h m P
+    behind_first [] {m = m} x' = elim x' [ ]
     behind_first (read e t ∷ h) (here {m = m} o f) = go (or_either (e && free) (D h) o)
       where
         go : ((e && free) ≡ true) ⊎ (D h ≡ true) → Before (read e t ∷ h) (t ∷ m) P
@@ -143,6 +145,7 @@ module _ {D E : List Read → Bool} {P Q : Tokens → Type 0} (c : Completes D P
 
     enters_second : (h : List Read) (t : List ℕ) (m₂ m₁ : Tokens)
         → Since h (t ∷ m₂ ++ m₁) → P m₁ → Since (second free D h) (t ∷ m₂)
+    enters_second [] u m₂ m₁ x'' p = elim x'' [ ]
     enters_second (read e t ∷ h) u m₂ m₁ (here o f) p =
         here (or_left (D h) (both_and o (first-free.1 (subst P (second_empty m₂ m₁ f) p)))) (first_empty m₂ m₁ f)
     enters_second (read e t ∷ h) u [] m₁ (later s) p = here (or_right (e && free) (c.complete h m₁ s p)) refl
@@ -189,6 +192,7 @@ module _ {D : List Read → Bool} {P : Tokens → Type 0} (c : Completes D P) wh
 
   -- what the part of a oneOrMore reads lies behind older sequences of the part
   behind_older : (h : List Read) {m : Tokens} → Since (again D h) m → Before h m Older
+  behind_older [] {m = m} x' = elim x' [ ]
   behind_older (read e t ∷ h) (here {m = m} o f) = go (λ l s. behind_older h s) (or_either e (D (again D h)) o)
     where
       go : ((l : Tokens) → Since (again D h) l → Before h l Older)
@@ -208,11 +212,13 @@ module _ {D : List Read → Bool} {P : Tokens → Type 0} (c : Completes D P) wh
 
   -- an entry of the whole is one of the part, and the end of a sequence is one more
   enters_again : (h : List Read) {m : Tokens} → Since h m → Since (again D h) m
+  enters_again [] {m = m} x' = elim x' [ ]
   enters_again (read e t ∷ h) (here o f) = here (or_left (D (again D h)) o) f
   enters_again (read e t ∷ h) (later s) = later (enters_again h s)
 
   enters_next : (h : List Read) (t : List ℕ) (m₂ m₁ : Tokens)
       → Since (again D h) (t ∷ m₂ ++ m₁) → P m₁ → Since (again D h) (t ∷ m₂)
+  enters_next [] u m₂ m₁ x'' p = elim x'' [ ]
   enters_next (read e t ∷ h) u m₂ m₁ (here o f) p = here o (first_empty m₂ m₁ f)
   enters_next (read e t ∷ h) u [] m₁ (later s) p = here (or_right e (c.complete (again D h) m₁ s p)) refl
   enters_next (read e t ∷ h) u (v ∷ m₂) m₁ (later s) p = later (enters_next h v m₂ m₁ s p)
