@@ -84,11 +84,13 @@ within_bytes used text = cond (leb (used + length text) max_bytes) (some text) n
 
 module _ (used : ℕ) (l : List ℕ) where
   pub string_no_key : after (ascii "s=") l ≡ none → string_after used l ≡ none
-  string_no_key e = ap (λ (o : Option (List ℕ)). and_then o (λ digits. and_then (hex_bytes digits) (within_bytes used))) e
+  string_no_key e =
+      ap (λ (o : Option (List ℕ)). and_then o (λ digits. and_then (hex_bytes digits) (within_bytes used))) e
 
   module _ {digits : List ℕ} (e : after (ascii "s=") l ≡ some digits) where
     string_digits : string_after used l ≡ and_then (hex_bytes digits) (within_bytes used)
-    string_digits = ap (λ (o : Option (List ℕ)). and_then o (λ digits. and_then (hex_bytes digits) (within_bytes used))) e
+    string_digits =
+        ap (λ (o : Option (List ℕ)). and_then o (λ digits. and_then (hex_bytes digits) (within_bytes used))) e
 
     pub string_no_bytes : hex_bytes digits ≡ none → string_after used l ≡ none
     string_no_bytes f = string_digits ∙ ap (λ (o : Option (List ℕ)). and_then o (within_bytes used)) f

@@ -27,16 +27,6 @@ returns-then-b-gt57 c =
     ∙ laws.digits_high loop.value (get_or args.text.now loop.i 0)
     (drop (loop.i + 1) args.text.now) c.if-b-gt57.true))
 
-pub overflow_cast-value : goal.overflow_cast-value
-overflow_cast-value c =
-    let loop = c.loop-i in
-    omega (arith, c.shared_slice_known-1.given loop.i)
-
-pub overflow_add-value : goal.overflow_add-value
-overflow_add-value c =
-    let loop = c.loop-i in
-    omega (arith, c.shared_slice_known-1.given loop.i)
-
 pub returns-then-value-gt-LARGEST_NUMBER : goal.returns-then-value-gt-LARGEST_NUMBER
 returns-then-value-gt-LARGEST_NUMBER c =
     let args = c.args in

@@ -11,11 +11,6 @@ use Rattle.job_texts.proofs.put_hex.Goals as goal
 pub loop-i-init : goal.loop-i-init
 loop-i-init c = record { wrote = wrote_none _ _; within = omega arith }
 
-pub hex_digit-requires : goal.hex_digit-requires
-hex_digit-requires c =
-    let f = c.shared_slice_known-in-loop-i-1.given c.loop-i.i in
-    omega arith
-
 pub put-q-requires : goal.put-q-requires
 put-q-requires c =
     let f = c.loop-i.invariant in
