@@ -8,7 +8,7 @@ ghost use Rattle.datatypes.specs.Split.{TokenTo};
 ghost use Rattle.tables.specs.Answers.{Decides};
 
 // The next character of a normalized text with the position after it, or its end.
-#[derive(Drop)]
+#[derive(Clone, Copy)]
 enum Step {
     Byte(u8, usize),
     End,

@@ -17,14 +17,14 @@ ghost use Rattle.job_lines.specs.Promises.{held_as, tables_in, room_of, OutputsH
 use job_numbers::Number;
 
 // A position, if there is one.
-#[derive(Drop)]
+#[derive(Clone, Copy)]
 enum Found {
     At(usize),
     Nothing,
 }
 
 // A count and the position after its line, if there is one.
-#[derive(Drop)]
+#[derive(Clone, Copy)]
 enum Counted {
     Count(u32, usize),
     NoCount,
@@ -32,14 +32,14 @@ enum Counted {
 
 // The lines of a table: the position after them, the number of the next line and the number of words, or the first
 // wrong line.
-#[derive(Drop)]
+#[derive(Clone, Copy)]
 enum Section {
     Read(usize, u32, usize),
     Wrong(u32),
 }
 
 // The end of a file, or the first wrong line.
-#[derive(Drop)]
+#[derive(Clone, Copy)]
 enum Ending {
     Ended,
     Wrong(u32),
@@ -47,21 +47,21 @@ enum Ending {
 
 // The first line and the strings: the position after them, the number of the next line, and the numbers of bytes and of
 // strings; or the first wrong line.
-#[derive(Drop)]
+#[derive(Clone, Copy)]
 enum Front {
     Read(usize, u32, usize, usize),
     Wrong(u32),
 }
 
 // The tables of rows and the last line: the numbers of words of the two tables, or the first wrong line.
-#[derive(Drop)]
+#[derive(Clone, Copy)]
 enum Back {
     Read(usize, usize),
     Wrong(u32),
 }
 
 // The numbers of words of the four tables, or the first wrong line.
-#[derive(Drop)]
+#[derive(Clone, Copy)]
 pub enum Held {
     Tables(usize, usize, usize, usize),
     Wrong(u32),

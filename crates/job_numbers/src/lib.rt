@@ -6,7 +6,7 @@ ghost use Rattle.job.specs.Numbers.{no_leading_zero, number_of, word_of, hex_val
 ghost use Rattle.job_numbers.specs.Answers.{as_number, digits_of};
 
 // The number that a text is, if it is one.
-#[derive(Drop)]
+#[derive(Clone, Copy)]
 pub enum Number {
     Value(u32),
     NoNumber,

@@ -10,7 +10,7 @@ use job_lines::Held;
 
 // What a job file reads as: how many bytes, strings, schema rows and instance rows, or the refusal with its code and
 // place.
-#[derive(Drop)]
+#[derive(Clone, Copy)]
 pub enum JobRead {
     Read(u32, u32, u32, u32),
     NotRead(u32, u32),

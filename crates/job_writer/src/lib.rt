@@ -12,7 +12,7 @@ ghost use Rattle.job_writer.specs.declared.JobWritten.TheVariants.{NotWritten};
 use tables::Checked;
 
 // How long the text of a job is, or the refusal with its code and place.
-#[derive(Drop)]
+#[derive(Clone, Copy)]
 pub enum JobWritten {
     Written(u32),
     NotWritten(u32, u32),

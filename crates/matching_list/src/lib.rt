@@ -16,7 +16,7 @@ ghost use Rattle.matching_list.specs.Start.{RootAsked, StartAsked, TellsRoot, Te
 
 // Whether the instance is valid, with the number of pairs of the match list; or that the lent list is too short for
 // them.
-#[derive(Drop)]
+#[derive(Clone, Copy)]
 pub enum Answer {
     Valid(u32),
     NotValid(u32),
@@ -24,7 +24,7 @@ pub enum Answer {
 }
 
 // How many pairs there are, or that the list is too short for them.
-#[derive(Drop)]
+#[derive(Clone, Copy)]
 enum Listed {
     Pairs(u32),
     TooShort,

@@ -15,7 +15,7 @@ use tables::{Checked, Verdict};
 
 // Whether a name is in a class, with the row of the class that says so, or NO_ROW for a no without one; or the refusal
 // with its code and place.
-#[derive(Drop)]
+#[derive(Clone, Copy)]
 pub enum Membership {
     Yes(u32),
     No(u32),
@@ -23,7 +23,7 @@ pub enum Membership {
 }
 
 // The least name that two classes have in common, or the refusal with its code and place.
-#[derive(Drop)]
+#[derive(Clone, Copy)]
 pub enum CommonName {
     Least(u32, u32),
     None,
@@ -31,7 +31,7 @@ pub enum CommonName {
 }
 
 // Whether an instance is valid by a schema, or the refusal with its code and place.
-#[derive(Drop)]
+#[derive(Clone, Copy)]
 pub enum Validation {
     Valid,
     NotValid,
@@ -40,7 +40,7 @@ pub enum Validation {
 
 // Whether an instance is valid by a schema, with the number of pairs of the match list; or the refusal with its code
 // and place.
-#[derive(Drop)]
+#[derive(Clone, Copy)]
 pub enum MatchAnswer {
     Valid(u32),
     NotValid(u32),

@@ -55,7 +55,7 @@ pub const ELEMENT: u32 = 20;
 pub const START: u32 = 21;
 
 // What a row is.
-#[derive(Drop)]
+#[derive(Clone, Copy)]
 pub enum Sort {
     Pattern,
     NameClass,
@@ -66,7 +66,7 @@ pub enum Sort {
 
 // What a field of a row holds: a pattern or a name class, at a smaller row; such a row or none; the row of a
 // definition; a datatype; the number of a string, or of a local name.
-#[derive(Drop)]
+#[derive(Clone, Copy)]
 pub enum Field {
     Unused,
     APattern,
@@ -80,7 +80,7 @@ pub enum Field {
 }
 
 // What a row of a kind is, and what its fields hold.
-#[derive(Drop)]
+#[derive(Clone, Copy)]
 pub struct Shape {
     pub sort: Sort,
     pub a: Field,
