@@ -69,6 +69,7 @@ every_pair t (x ∷ l) = t x.0 x.1 && every_pair t l
 
 every_pair_lem : (t : ℕ → ℕ → Bool) (l : List (ℕ × ℕ)) → every_pair t l ≡ true
     → (e d : ℕ) → Memᴰ (e, d) l → t e d ≡ true
+every_pair_lem t [] h e d x'' = elim x'' [ ]
 every_pair_lem t (x ∷ l) h e d (Memᴰ.head z) =
     subst (λ (y : ℕ × ℕ). t y.0 y.1 ≡ true) (sym z) (and_left (t x.0 x.1) (every_pair t l) h)
 every_pair_lem t (x ∷ l) h e d (Memᴰ.tail m) = every_pair_lem t l (and_right (t x.0 x.1) (every_pair t l) h) e d m
