@@ -31,10 +31,13 @@ use Rattle.cases.proofs.Checked.{check, check_all, all_checked}
 
 -- every row of the table succeeds, by computation
 checked : check_all table ≡ true
-unfolding space upto shape_of uses_before pattern_by class_by class.holds rows_where fields_right how_many type_by clash_by
-    run every_below some_below strings_test child_test inside_test rows_test none_below places_test names_test paths_test
+unfolding space upto shape_of uses_before pattern_by class_by class.holds rows_where fields_right how_many type_by
+    clash_by
+    run every_below some_below strings_test child_test inside_test rows_test none_below places_test names_test
+    paths_test
     type_below clash_test in_list_test sequence_test meet_test least_test shared_test attributes_test interleave_test
-    pass_test refused_test up_test parent_test nodes_test width_test reach_test plus_test span_test pair_test valid_test check
+    pass_test refused_test up_test parent_test nodes_test width_test reach_test plus_test span_test pair_test valid_test
+    check
 checked = refl
 
 pub all_hold : AllHold table

@@ -1,13 +1,12 @@
 -- A test of a row of the table of cases, and that a row that succeeds holds.
 use Prim.Native.Nat.{ℕ, ◌<◌}
-use mathlib.Core.Path.{◌≡◌, refl, sym, subst}
+use mathlib.Core.Path.{◌≡◌, sym, subst}
 use mathlib.Core.Bool.{Bool, true, false, not, ◌&&◌, ◌||◌, false≢true}
 use mathlib.Core.List.{List, [], ◌∷◌, Memᴰ}
 use mathlib.Core.Logic.Iff
 use mathlib.Core.Logic.{inl, inr, ◌↔◌}
 use native.Mathlib.Omega.{arith}
 use lib.Dec.{eqb, ltb}
-use lib.ListN.{length}
 use borrow.Author.Tests.{eqb-true, ltb-true}
 use Rattle.tables.specs.Tables.{StringTable}
 use Rattle.tables.specs.Refusals.{goes_on, Passes}
@@ -118,7 +117,8 @@ module _ (r : Row) where
   abbrev job_test : Bool
   job_test =
       pass_test (tables_at r).strings s
-      && (nodes_test (instance_strings (tables_at r).strings) t && width_test (instance_strings (tables_at r).strings) t)
+      && (nodes_test (instance_strings (tables_at r).strings) t
+      && width_test (instance_strings (tables_at r).strings) t)
 
   abbrev list_test : List (ℕ × ℕ) → Bool
   list_test pairs = rising_test pairs && (every_pair sound_test pairs && all_listed pairs)
@@ -148,8 +148,11 @@ module _ (r : Row) where
         sound e d m =
             let h = every_pair_lem sound_test pairs f e d m in
             let l = ltb-true e (nodes_of t) (and_left (ltb e (nodes_of t)) (is_element t e && paired e d) h) in
-            let k = and_right (ltb e (nodes_of t)) (is_element t e && paired e d) h in
-            (l, and_left (is_element t e) (paired e d) k, (proved_iff e d l).0 (and_right (is_element t e) (paired e d) k))
+            let k = and_right (ltb e (nodes_of t)) (is_element t e && paired e d) h in (
+              l,
+              and_left (is_element t e) (paired e d) k,
+              (proved_iff e d l).0 (and_right (is_element t e) (paired e d) k),
+            )
 
         go : (e d : ℕ) (a b : Bool) → a ≡ true → b ≡ true
             → elim a [ true ↦ elim b [ true ↦ listed_test e d pairs | false ↦ true ] | false ↦ true ] ≡ true
@@ -184,7 +187,8 @@ module _ (r : Row) where
     not_wide = not_wide (instance_strings (tables_at r).strings) t
         (and_right (nodes_test (instance_strings (tables_at r).strings) t)
         (width_test (instance_strings (tables_at r).strings) t) instance_pass);
-    rising = rising_test_lem pairs (and_left (rising_test pairs) (every_pair sound_test pairs && all_listed pairs) list);
+    rising =
+        rising_test_lem pairs (and_left (rising_test pairs) (every_pair sound_test pairs && all_listed pairs) list);
     listed = lists refusal nodes pairs (and_left (every_pair sound_test pairs) (all_listed pairs) members)
         (and_right (every_pair sound_test pairs) (all_listed pairs) members);
     validity = valid_is_lem refusal nodes valid (and_right (list_test pairs) (valid_is valid) rest);
@@ -234,7 +238,8 @@ module _ (r : Row) where
       let p = and_left (pass_test (tables_at r).strings s)
       (least_test (instance_strings (tables_at r).strings) s c d u l) h in (
         schema_passes (tables_at r).strings s p,
-        least_test_lem (instance_strings (tables_at r).strings) s c d u l (schema_rows (tables_at r).strings s p) (and_right
+        least_test_lem (instance_strings (tables_at r).strings) s c d u l (schema_rows (tables_at r).strings s p)
+            (and_right
             (pass_test (tables_at r).strings s) (least_test (instance_strings (tables_at r).strings) s c d u l) h),
       )
   says (refused code place) h = schema_refused (tables_at r).strings s code place h

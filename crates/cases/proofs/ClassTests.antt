@@ -99,7 +99,8 @@ module _ (strings : ℕ) (s : List ℕ) (c d : ℕ) where
 
         tested : (v k : ℕ) → v < bound strings → k < bound strings → later_test v k ≡ true
         tested v k i j =
-            every_below_lem (later_test v) (bound strings) (every_below_lem (λ v. every_below (later_test v) (bound strings))
+            every_below_lem (later_test v) (bound strings)
+            (every_below_lem (λ v. every_below (later_test v) (bound strings))
             (bound strings) (and_right (both_hold u l) all_later pass) v i) k j
 
         first : (v k : ℕ) → Common s c d v k → NotAfter u l v k

@@ -47,7 +47,8 @@ module _ (R : ℕ → ℕ → Bool) where
     pub plus_test_lem : (n : ℕ) {i j : ℕ} → j - i ≤ n → Plus S i j → plus_test n i j ≡ true
     unfolding plus_test
     plus_test_lem n {i} {j} l (once s) = last_step n i j (complete i j s)
-    plus_test_lem n {i} {j} l (more {h = h} s t) = go n l (dec_lt i h) (dec_lt h j) (λ n l. plus_test_lem n {i = h} {j = j} l t)
+    plus_test_lem n {i} {j} l (more {h = h} s t) =
+        go n l (dec_lt i h) (dec_lt h j) (λ n l. plus_test_lem n {i = h} {j = j} l t)
       where
         a : i ≤ h
         a = onward i h s

@@ -47,7 +47,8 @@ module _ (strings : ℕ) (t : List ℕ) where
 
   unfoldable pub parent_test : ℕ → Bool
   parent_test zero = eqb (kind_of t 0) element && eqb (parent_of t 0) no_parent
-  parent_test (suc r) = not (eqb (parent_of t (suc r)) no_parent) && up_test (nodes_of t) (parent_of t (suc r)) (nearest t r)
+  parent_test (suc r) =
+      not (eqb (parent_of t (suc r)) no_parent) && up_test (nodes_of t) (parent_of t (suc r)) (nearest t r)
 
   parent_test_lem : (r : ℕ) → parent_test r ≡ true → ParentRight t r
   unfolding parent_test ParentRight
@@ -59,7 +60,8 @@ module _ (strings : ℕ) (t : List ℕ) where
     λ e. no_of (and_left (not (eqb (parent_of t (suc r)) no_parent))
         (up_test (nodes_of t) (parent_of t (suc r)) (nearest t r)) h) (eq-eqb (parent_of t (suc r)) no_parent e),
     up_test_lem (nodes_of t) (parent_of t (suc r)) (nearest t r)
-        (and_right (not (eqb (parent_of t (suc r)) no_parent)) (up_test (nodes_of t) (parent_of t (suc r)) (nearest t r)) h),
+        (and_right (not (eqb (parent_of t (suc r)) no_parent))
+        (up_test (nodes_of t) (parent_of t (suc r)) (nearest t r)) h),
   )
 
   -- row r is at odds with an earlier row q
@@ -125,7 +127,8 @@ module _ (strings : ℕ) (t : List ℕ) where
 
       node_right : ¬ WrongNode strings t r
       node_right (bad_fields e) = true≢false (sym (and_left (fields_test r) (place_test r) (node r l)) ∙ e)
-      node_right (bad_parent f) = f (parent_test_lem r (and_left (parent_test r) (every_below (earlier_test r) r) place))
+      node_right (bad_parent f) =
+          f (parent_test_lem r (and_left (parent_test r) (every_below (earlier_test r) r) place))
       node_right (late_attribute q h k c) =
           no_of (and_left (not (late_test r q)) (not (twin_test r q) && not (texts_test r q)) (earlier q h))
           (both_and (eq-eqb _ _ k) c)

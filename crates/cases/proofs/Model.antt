@@ -104,7 +104,8 @@ module _ (L : Lookups) (N : ℕ) (equal : ℕ → List ℕ → List ℕ → Bool
       free_test N A && one_item (on_string (λ s. equal t s (L.text k))) (run it K i (j - i))
   kind_test rec n it A K i j (list q) =
       free_test N A && one_item (on_string (λ s. tokens_test rec q (L.split s))) (run it K i (j - i))
-  kind_test rec n it A K i j (attribute nc q) = some_below (attribute_test L N rec A nc q) N && no_item (run it K i (j - i))
+  kind_test rec n it A K i j (attribute nc q) =
+      some_below (attribute_test L N rec A nc q) N && no_item (run it K i (j - i))
   kind_test rec n it A K i j (ref d) = free_test N A && one_item (on_element (λ e. pair e d)) (run it K i (j - i))
   kind_test rec n it A K i j (one_or_more q) = repeat_test N rec it A K q i j
   kind_test rec n it A K i j (choice p q) = rec it A K p i j || rec it A K q i j

@@ -119,7 +119,8 @@ module _ (L : Lookups) (R : Restricted L) (N : ℕ) (equal : ℕ → List ℕ �
     weak_string_decided : (q : ℕ) (s : List ℕ) → q < n
         → (weak_string_test L rec q s ≡ true) ↔ WeakMatch L Not no_attributes (string s ∷ []) (L.pattern q)
     weak_string_decided q s l =
-        Iff.trans (either_decides (string_test rec no_attributes q s) (L.whitespace s && nothing_test rec no_attributes q)
+        Iff.trans
+        (either_decides (string_test rec no_attributes q s) (L.whitespace s && nothing_test rec no_attributes q)
         (string_decided no_attributes no_attributes_lem no_twins q s l)
         (both_decide (L.whitespace s) (nothing_test rec no_attributes q)
         Iff.rfl (nothing_decided no_attributes no_attributes_lem no_twins q l)))
@@ -165,7 +166,8 @@ module _ (L : Lookups) (R : Restricted L) (N : ℕ) (equal : ℕ → List ℕ �
                 record {
                   row = x.0;
                   set = (only_set N A fits.bound x.0).0 (h.0, h.1.0);
-                  sequence = (no_item_lem items).0 (and_right (some_below (attribute_test L N rec A nc q) N) (no_item items) e);
+                  sequence = (no_item_lem items).0
+                      (and_right (some_below (attribute_test L N rec A nc q) N) (no_item items) e);
                   named = h.1.1.0;
                   valued = h.1.1.1;
                 },
@@ -176,7 +178,8 @@ module _ (L : Lookups) (R : Restricted L) (N : ℕ) (equal : ℕ → List ℕ �
           from s =
               let m = s.1 in
               let o = (only_set N A fits.bound m.row).1 m.set in
-              (both_decide (some_below (attribute_test L N rec A nc q) N) (no_item items) Iff.rfl (no_item_lem items)).1 (
+              (both_decide (some_below (attribute_test L N rec A nc q) N) (no_item items) Iff.rfl
+              (no_item_lem items)).1 (
                 some_below_lem (attribute_test L N rec A nc q) N m.row (fits.bound m.row o.0)
                     ((at m.row).1 (o.0, (o.1, (m.named, m.valued)))),
                 m.sequence,
@@ -242,7 +245,8 @@ module _ (L : Lookups) (R : Restricted L) (N : ℕ) (equal : ℕ → List ℕ �
         taker = takers L n it p₁
 
         names_tell : Tells side A (λ x. Reaches L (names_attribute L x) (L.pattern p₁))
-        names_tell x h = (test_reach L (names_attribute L x) n p₁, reach_test_lem L (names_attribute L x) R n p₁ l₁ refl)
+        names_tell x h =
+            (test_reach L (names_attribute L x) n p₁, reach_test_lem L (names_attribute L x) R n p₁ l₁ refl)
 
         takers_tell : Tells taker K (λ k. Reaches L (takes L (it k)) (L.pattern p₁))
         takers_tell k h = (test_reach L (takes L (it k)) n p₁, reach_test_lem L (takes L (it k)) R n p₁ l₁ refl)
@@ -313,7 +317,8 @@ module _ (L : Lookups) (R : Restricted L) (N : ℕ) (equal : ℕ → List ℕ �
           (Iff.symm (items_only L Not A it K p i j (pattern.data_all t) (One (λ s. Unit {0})) Iff.rfl e))
       kind_decided l (pattern.data_except t q) e =
           Iff.trans
-          (items_decided (one_item (on_string (λ s. not (string_test rec no_attributes q s))) items) (One (λ s. Not s q))
+          (items_decided (one_item (on_string (λ s. not (string_test rec no_attributes q s))) items)
+          (One (λ s. Not s q))
           (one_string_lem (λ s. not (string_test rec no_attributes q s)) (λ s. Not s q) excepted items))
           (Iff.symm (items_only L Not A it K p i j (pattern.data_except t q) (One (λ s. Not s q)) Iff.rfl e))
         where

@@ -15,7 +15,8 @@ use Rattle.schema.specs.RowRule.{too_many_rows, broken_length, bad_size, bad_row
 use Rattle.schema.proofs.RowLaws.{in_table, right_size}
 use Rattle.schema_places.specs.Places.{holds_whole, empty_fits, PlaceFault, not_allowed_inside, empty_inside}
 use Rattle.schema_places.specs.Names.{NameFault, any_name_in_any_name, any_name_in_ns_name, ns_name_in_ns_name}
-use Rattle.schema_places.specs.Paths.{sharing_kind, not_in_attribute, not_in_list, not_in_except, not_in_start, PathFault}
+use Rattle.schema_places.specs.Paths.{sharing_kind, not_in_attribute, not_in_list, not_in_except, not_in_start}
+use Rattle.schema_places.specs.Paths.{PathFault}
 use Rattle.schema_places.specs.Paths.{in_attribute, in_repeated_sharing, in_list, in_except, in_start}
 use Rattle.tables.proofs.Booleans.{or_left, or_right, and_left, and_right, both_and}
 use Rattle.cases.proofs.Tests.{every_below, every_below_lem, no_of}
@@ -36,7 +37,8 @@ module _ (strings : ℕ) (s : List ℕ) where
   unfolding rows_test
   rows_right pass r (bad_row f) =
       true≢false
-      (sym (every_below_lem row_test (rows_of s) (and_right size_test (every_below row_test (rows_of s)) pass) r f.0) ∙ f.1)
+      (sym (every_below_lem row_test (rows_of s) (and_right size_test (every_below row_test (rows_of s)) pass) r f.0)
+      ∙ f.1)
   rows_right pass r (bad_size f) = go (and_left size_test (every_below row_test (rows_of s)) pass) f
     where
       go : size_test ≡ true → ¬ SizeFault s r
@@ -60,7 +62,8 @@ prohibited_name j k =
 abbrev pub prohibited_path : ℕ → ℕ → Bool
 prohibited_path j k =
     eqb j kind.attribute && not_in_attribute k
-    || (eqb j kind.list && not_in_list k || (eqb j kind.«data» && not_in_except k || eqb j kind.start && not_in_start k))
+    || (eqb j kind.list && not_in_list k
+    || (eqb j kind.«data» && not_in_except k || eqb j kind.start && not_in_start k))
 
 -- no row has one below it that the test finds at odds with it
 unfoldable pub none_below : List ℕ → (ℕ → ℕ → Bool) → Bool

@@ -26,7 +26,8 @@ use Rattle.cases.proofs.ClassTests.{meet_test, meet_test_lem, test_meet}
 module _ (strings : ℕ) (s : List ℕ) where
   -- the rows of a kind that occur in a pattern, by a further test
   abbrev some_of : ℕ → (ℕ → Bool) → ℕ → Bool
-  some_of k t p = inside_test s connective (λ x. elim (eqb (kind_of s x) k) [ true ↦ t x | false ↦ false ]) (rows_of s) p
+  some_of k t p =
+      inside_test s connective (λ x. elim (eqb (kind_of s x) k) [ true ↦ t x | false ↦ false ]) (rows_of s) p
 
   test_some : (k : ℕ) (t : ℕ → Bool) (p : ℕ) → some_of k t p ≡ true
       → (x : ℕ) × Occurs s x p × (kind_of s x ≡ k) × (t x ≡ true)
@@ -54,7 +55,8 @@ module _ (strings : ℕ) (s : List ℕ) where
   test_shared : (k : ℕ) (class : ℕ → ℕ) (r : ℕ) → shared_test k class r ≡ true → Shared k class r
   unfolding shared_test
   test_shared k class r e =
-      let a = test_some k (λ x. some_of k (λ y. meet_test strings s (class x) (class y)) (child_b s r)) (child_a s r) e in
+      let a =
+      test_some k (λ x. some_of k (λ y. meet_test strings s (class x) (class y)) (child_b s r)) (child_a s r) e in
       let b = test_some k (λ y. meet_test strings s (class a.0) (class y)) (child_b s r) a.3 in
       let m = test_meet strings s (class a.0) (class b.0) b.3 in
       record {
@@ -71,7 +73,8 @@ module _ (strings : ℕ) (s : List ℕ) where
 
   -- code 7
   abbrev pub duplicate_test : ℕ → Bool
-  duplicate_test r = elim (sharing_kind (kind_of s r)) [ true ↦ shared_test kind.attribute (child_a s) r | false ↦ false ]
+  duplicate_test r =
+      elim (sharing_kind (kind_of s r)) [ true ↦ shared_test kind.attribute (child_a s) r | false ↦ false ]
 
   abbrev wildcard : ℕ → Bool
   wildcard c = is_wildcard (kind_of s c)
@@ -84,7 +87,8 @@ module _ (strings : ℕ) (s : List ℕ) where
 
   abbrev finite_or_repeated : ℕ → Bool
   finite_or_repeated r =
-      not (eqb (kind_of s r) kind.attribute) || (not (infinite_test (child_a s r)) || some_below (repeats r) (rows_of s))
+      not (eqb (kind_of s r) kind.attribute)
+      || (not (infinite_test (child_a s r)) || some_below (repeats r) (rows_of s))
 
   unfoldable pub attributes_test : ℕ → Bool
   attributes_test r = not (duplicate_test r) && finite_or_repeated r

@@ -4,7 +4,6 @@ use mathlib.Core.Path.{◌≡◌, refl, sym, subst}
 use mathlib.Core.Bool.{Bool, true, false, not, ◌&&◌, false≢true}
 use mathlib.Core.List.{List}
 use lib.Dec.{eqb}
-use lib.ListN.{length}
 use borrow.Author.Tests.{eqb-true}
 use Rattle.tables.specs.Tables.{StringTable}
 use Rattle.tables.specs.Answers.{Decides, Clear}
@@ -104,7 +103,8 @@ module _ (T : StringTable) (s : List ℕ) where
   -- what a test of each row before n shows of a code
   sequences_right : placed ≡ true → (n : ℕ) → every_below sequence_right n ≡ true → Clear (SequenceFault s) n
   sequences_right pass n e r h f =
-      go (sequence_test s r) (sequence_test_lem s (right_size (rows_pass pass)) r) (every_below_lem sequence_right n e r h)
+      go (sequence_test s r) (sequence_test_lem s (right_size (rows_pass pass)) r)
+      (every_below_lem sequence_right n e r h)
     where
       go : (b : Bool) → Decides (SequenceFault s r) b → ¬ (not b ≡ true)
       go true d i = false≢true i

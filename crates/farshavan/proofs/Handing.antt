@@ -1,11 +1,11 @@
 -- A run that fits is handed over with its number, and one that does not is refused.
 use Prim.Native.Nat.{ℕ, ◌*◌, ◌≤◌, ◌<◌}
 use mathlib.Core.Path.{◌≡◌, refl, sym, subst, ◌∙◌}
-use mathlib.Core.Bool.{Bool, true, false, cond}
+use mathlib.Core.Bool.{Bool, true, false}
 use mathlib.Core.List.{List, [], ◌∷◌, ◌++◌}
 use mathlib.Core.Logic.{⊎_elim}
 use native.Mathlib.Omega.{arith}
-use lib.Dec.{leb, T, leb→le, le→leb}
+use lib.Dec.{leb→le, le→leb}
 use lib.ListN.{length, take, length-append}
 use Rattle.tables.specs.Tables.{Tables}
 use Rattle.tables.specs.Outputs.{laid, zeros}
@@ -43,7 +43,8 @@ handed_whole {run} {out} {value} {room} {r} h e o =
     let f = fits_in_lem run room h in
     record { number = rw f e; output = rw f o }
 
-pub handed_short : {run out : List ℕ} {value room r : ℕ} → room < length run → r ≡ packed_refusal 12 0 → out ≡ zeros room
+pub handed_short : {run out : List ℕ} {value room r : ℕ} → room < length run → r ≡ packed_refusal 12 0
+    → out ≡ zeros room
     → Handed run value room out r
 handed_short {run} {out} {value} {room} {r} h e o =
     let f = not_in run room h in

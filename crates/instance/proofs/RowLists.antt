@@ -70,7 +70,8 @@ module _ (test : ℕ → Bool) where
 
   select : {b a : ℕ} {l : List ℕ} {x : ℕ} → Selects test b a l → a ≤ x → x < b → test x ≡ true → Memᴰ x l
   select {x = x} (no_more f) m n e = absurd (true≢false (sym e ∙ f x m n))
-  select {b = b} {a = a} {x = x} (next {x = y} {l = l} h k f p s) m n e = go (dec_lt x y) (ℕ_discrete x y) (λ i. select s i n e)
+  select {b = b} {a = a} {x = x} (next {x = y} {l = l} h k f p s) m n e =
+      go (dec_lt x y) (ℕ_discrete x y) (λ i. select s i n e)
     where
       go : Dec (x < y) → Dec (x ≡ y) → (suc y ≤ x → Memᴰ x l) → Memᴰ x (y ∷ l)
       go (yes i) d ih = absurd (true≢false (sym e ∙ f x m i))
@@ -106,7 +107,8 @@ pub data Alternate (t : List ℕ) : List ℕ → Type 0 where
   without_row : Alternate t []
   element_row : {r : ℕ} {l : List ℕ} → is_element t r ≡ true → Alternate t l → Alternate t (r ∷ l)
   last_text : {r : ℕ} → kind_of t r ≡ text → Alternate t (r ∷ [])
-  text_row : {r q : ℕ} {l : List ℕ} → kind_of t r ≡ text → is_element t q ≡ true → Alternate t l → Alternate t (r ∷ q ∷ l)
+  text_row : {r q : ℕ} {l : List ℕ} → kind_of t r ≡ text → is_element t q ≡ true → Alternate t l
+      → Alternate t (r ∷ q ∷ l)
 
 pub child_kinds : (t : List ℕ) (e r : ℕ) → is_child t e r ≡ true → (is_element t r ≡ true) ⊎ (kind_of t r ≡ text)
 child_kinds t e r c =

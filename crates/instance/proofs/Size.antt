@@ -12,7 +12,8 @@ use Rattle.instance.specs.NodeRule.{max_nodes, NodeSizeFault, no_node, too_many_
 use Rattle.instance.specs.NodeRule.{broken_length, NodeFault, NodesRight, bad_size, bad_node}
 use Rattle.instance.specs.Walk.{BadNode}
 
-pub size_right : {t : List ℕ} → nodes_of t ≢ 0 → nodes_of t ≤ max_nodes → length t % 5 ≡ 0 → (r : ℕ) → ¬ NodeSizeFault t r
+pub size_right : {t : List ℕ} → nodes_of t ≢ 0 → nodes_of t ≤ max_nodes → length t % 5 ≡ 0 → (r : ℕ)
+    → ¬ NodeSizeFault t r
 size_right some few whole r (no_node e z) = some e
 size_right some few whole r (too_many_nodes h z) = omega arith
 size_right some few whole r (broken_length w z) = w whole

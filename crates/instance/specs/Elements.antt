@@ -1,5 +1,5 @@
 -- What an element has, as rows of the instance: its attributes and its children, in document order.
-use Rattle.std.specs.Prelude.{ℕ, zero, suc, Bool, true, false, cond, List, [], ◌∷◌, ◌++◌, eqb}
+use Rattle.std.specs.Prelude.{ℕ, zero, suc, Bool, cond, List, [], ◌∷◌, ◌++◌, eqb}
 use Rattle.instance.specs.Nodes.{element, nodes_of, kind_of, is_child, is_attribute}
 
 -- the rows before n that pass a test, in order

@@ -1,5 +1,6 @@
 -- The rule of instance rows, width apart, from FORMAT, "Instance rows", and code 9 of FORMAT, "Codes and places".
-use Rattle.std.specs.Prelude.{ℕ, zero, suc, ◌<◌, ◌%◌, ◌≡◌, ◌≢◌, Bool, true, false, cond, ◌&&◌, ◌||◌, List, length, ltb, eqb}
+use Rattle.std.specs.Prelude.{ℕ, zero, suc, ◌<◌, ◌%◌, ◌≡◌, ◌≢◌, Bool, true, false, cond, ◌&&◌, List, length, ltb}
+use Rattle.std.specs.Prelude.{eqb}
 use Rattle.instance.specs.Nodes.{element, attribute, text, no_parent, nodes_of, kind_of}
 use Rattle.instance.specs.Nodes.{parent_of, a_of, b_of, c_of, is_child, is_attribute, SameName}
 
@@ -38,7 +39,8 @@ pub data NodeSizeFault (t : List ℕ) (r : ℕ) : Type 0 where
 pub data WrongNode (strings : ℕ) (t : List ℕ) (r : ℕ) : Type 0 where
   bad_fields : fields_right strings (kind_of t r) (a_of t r) (b_of t r) (c_of t r) ≡ false → WrongNode strings t r
   bad_parent : ¬ ParentRight t r → WrongNode strings t r
-  late_attribute : (q : ℕ) → q < r → kind_of t r ≡ attribute → is_child t (parent_of t r) q ≡ true → WrongNode strings t r
+  late_attribute : (q : ℕ) → q < r → kind_of t r ≡ attribute → is_child t (parent_of t r) q ≡ true
+      → WrongNode strings t r
   same_attribute : (q : ℕ) → q < r → kind_of t r ≡ attribute → is_attribute t (parent_of t r) q ≡ true → SameName t q r
       → WrongNode strings t r
   text_after_text : (q : ℕ) → q < r → kind_of t r ≡ text → kind_of t q ≡ text → parent_of t q ≡ parent_of t r

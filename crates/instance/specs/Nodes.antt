@@ -1,5 +1,5 @@
 -- An instance is a list of words, five a row, in document order: kind, parent, a, b, c (FORMAT, "Instance rows").
-use Rattle.std.specs.Prelude.{ℕ, ◌+◌, ◌*◌, ◌/◌, ◌<◌, ◌≡◌, Bool, true, ◌&&◌, ◌||◌, List, length, get_or, eqb}
+use Rattle.std.specs.Prelude.{ℕ, ◌+◌, ◌*◌, ◌/◌, ◌≡◌, Bool, ◌&&◌, ◌||◌, List, length, get_or, eqb}
 
 -- kinds of rows
 abbrev pub element : ℕ

@@ -15,7 +15,8 @@ pub record Rooted (t : List ℕ) (r : ℕ) : Type 0 where
 -- k is the kind of the last child of e before row r, and 0 where e has none
 pub data LastChild (t : List ℕ) (e r k : ℕ) : Type 0 where
   no_child : k ≡ 0 → ((q : ℕ) → q < r → is_child t e q ≡ false) → LastChild t e r k
-  child_at : (q : ℕ) → q < r → is_child t e q ≡ true → kind_of t q ≡ k → ((x : ℕ) → q < x → x < r → is_child t e x ≡ false)
+  child_at : (q : ℕ) → q < r → is_child t e q ≡ true → kind_of t q ≡ k
+      → ((x : ℕ) → q < x → x < r → is_child t e x ≡ false)
       → LastChild t e r k
 
 pub record LastChildren (t last : List ℕ) (r : ℕ) : Type 0 where

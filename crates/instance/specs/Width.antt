@@ -14,4 +14,5 @@ how_many test (suc n) = how_many test n + cond (test n) 1 0
 pub data WidthFault (t : List ℕ) (e : ℕ) : Type 0 where
   many_attributes : e < nodes_of t → kind_of t e ≡ element → max_width < how_many (is_attribute t e) (nodes_of t)
       → WidthFault t e
-  many_children : e < nodes_of t → kind_of t e ≡ element → max_width < how_many (is_child t e) (nodes_of t) → WidthFault t e
+  many_children : e < nodes_of t → kind_of t e ≡ element → max_width < how_many (is_child t e) (nodes_of t)
+      → WidthFault t e

@@ -1,14 +1,14 @@
 -- The words that answer for row p, by its kind: what the code cites where it returns. The law of each kind, over the
 -- words of its operands, is from one span lemma of matching_rules.
-use Prim.Native.Nat.{ℕ, suc, ◌+◌, ◌-◌, ◌*◌, ◌^◌, ◌≤◌, ◌<◌}
+use Prim.Native.Nat.{ℕ, suc, ◌+◌, ◌-◌, ◌^◌, ◌≤◌, ◌<◌}
 use mathlib.Core.Path.{◌≡◌, refl, sym, ap, ◌∙◌, subst}
-use mathlib.Core.Bool.{Bool, true, false, true≢false}
+use mathlib.Core.Bool.{true, false, true≢false}
 use mathlib.Core.List.{List}
 use mathlib.Core.Logic.{◌≢◌, ◌⊎◌, inl, inr}
 use native.Mathlib.Decide.{ℕ_discrete}
 use native.Mathlib.Omega.{arith}
 use lib.Bits.{bit_and}
-use lib.Dec.{leb, eqb}
+use lib.Dec.{leb}
 use lib.ListN.{length, get_or}
 use borrow.Author.Tests.{leb-true}
 use borrow.Rule.Slice.PartMut.{put_mid}
@@ -27,7 +27,8 @@ use Rattle.matching_rules.specs.Reach.{one_string, role_of, Operand, Subpattern,
 use Rattle.matching_rules.specs.Reach.{choice_second, group_first, group_second, interleave_first, interleave_second}
 use Rattle.matching_rules.proofs.RowPatterns.{Makes, row_makes, makes_empty, makes_not_allowed, makes_text, makes_data}
 use Rattle.matching_rules.proofs.RowPatterns.{makes_except, makes_value, makes_list, makes_attribute, makes_ref}
-use Rattle.matching_rules.proofs.RowPatterns.{makes_one_or_more, makes_choice, makes_group, makes_interleave, makes_none}
+use Rattle.matching_rules.proofs.RowPatterns.{makes_one_or_more, makes_choice, makes_group, makes_interleave}
+use Rattle.matching_rules.proofs.RowPatterns.{makes_none}
 use Rattle.matching.specs.Setting.{Setting, tables_in, Asked, Covered, Relatable, HoldsRelated}
 use Rattle.matching.specs.Parts.{Where, OneIn, Repetition, HoldsLeaf, SharedOut, Operands}
 use Rattle.matching.proofs.Shares.{asked_part, operand_covered}
@@ -164,7 +165,8 @@ module _ (s : List ℕ) (p : ℕ) where
         related_choice S m asked p (a_of s p) (b_of s p) (by_kind e) (both.first S asked u₁) (both.second S asked u₂) is
 
     -- q, n and t are what was read: the first operand, and its words
-    module _ {v : List ℕ} {q n : ℕ} (ha : a < 2 ^ 64) (hn : n < 2 ^ 64) (f : q ≡ a_of s p) (g : n ≡ get_or named q 0) where
+    module _ {v : List ℕ} {q n : ℕ} (ha : a < 2 ^ 64) (hn : n < 2 ^ 64) (f : q ≡ a_of s p)
+        (g : n ≡ get_or named q 0) where
       pub answers_group : kind_of s p ≡ kind.group → Operands s marks named taken single m p (bit_and a n) k
           (bit_and a (2 ^ 64 - 1 - n)) k v → Is w (Then (WordsRelate (front m v)) (WordsRelate (next m v)))
           → HoldsRelated s marks named taken single m a k p w

@@ -56,7 +56,8 @@ module _ (m a k alone : ℕ) (R : Relation) (ha : a < 2 ^ 64) (hl : alone < 2 ^ 
   within : bit_and a (2 ^ 64 - 1 - alone) ≡ 0 → Subset a alone
   within z = (subset_test 64 a alone ha hl).0 z
 
-  pub repeats_none : {w : List ℕ} → ¬ (bit_and a (2 ^ 64 - 1 - alone) ≡ 0) → Is w Empty → Is w (Repetition m a k alone R)
+  pub repeats_none : {w : List ℕ} → ¬ (bit_and a (2 ^ 64 - 1 - alone) ≡ 0) → Is w Empty
+      → Is w (Repetition m a k alone R)
   repeats_none n is = where_fails (λ h. n ((subset_test 64 a alone ha hl).1 h)) is
 
   pub repeats_items : {w : List ℕ} → a ≡ 0 → Is w (Plus R) → Is w (Repetition m a k alone R)

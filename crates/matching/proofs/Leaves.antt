@@ -16,7 +16,7 @@ use Rattle.relations.specs.Relations.{Relation}
 use Rattle.relations.specs.Words.{Is, Empty, Gap, Single}
 use Rattle.relations.proofs.Words.{is_map}
 use Rattle.sets.proofs.Bits.{bit_without}
-use Rattle.matching_rules.specs.Items.{Item, element, string, Attributes, no_attributes, only, Lookups}
+use Rattle.matching_rules.specs.Items.{Item, element, string, Attributes, no_attributes, Lookups}
 use Rattle.matching_rules.specs.Rules.{Match, NotMatchBy}
 use Rattle.matching_rules.specs.Job.{lookups}
 use Rattle.tables.proofs.Booleans.{and_left, and_right, is_false}

@@ -42,7 +42,8 @@ module _ (e : ℕ) where
   abbrev pub has_row : ℕ → ℕ → Bool
   has_row b r = bit b (number_of r)
 
-  pub in_row : (a r : ℕ) → attributes_in e a r ≡ true → (attribute_row e (number_of r) ≡ r) × (bit a (number_of r) ≡ true)
+  pub in_row : (a r : ℕ) → attributes_in e a r ≡ true → (attribute_row e (number_of r) ≡ r)
+      × (bit a (number_of r) ≡ true)
   in_row a r h =
       let l = ltb-true e r (and_left (ltb e r) (bit a (number_of r)) h) in
       (omega arith, and_right (ltb e r) (bit a (number_of r)) h)

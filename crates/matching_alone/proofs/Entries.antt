@@ -6,7 +6,7 @@ use mathlib.Core.Logic.Iff
 use mathlib.Core.Logic.{◌⊎◌, inl, ⊎_map, ⊎_elim, ◌↔◌, ◌≢◌}
 use native.Mathlib.Decide.{ℕ_discrete}
 use native.Mathlib.Omega.{arith}
-use lib.ListN.{length, get_or}
+use lib.ListN.{get_or}
 use Rattle.tables.specs.Tables.{StringTable, tables_of}
 use Rattle.strings.specs.Strings.{text_of, schema_strings, instance_strings}
 use Rattle.datatypes.specs.Whitespace.{token_equal}
@@ -88,7 +88,8 @@ module _ (T : StringTable) (s t : List ℕ) where
   no_null p r f (makes_none e) d = (stepwise L N pattern.no_pattern).0 d
 
   no_lone : (p : ℕ) {x : Pattern} {w : List ℕ} → Rest s p → kind_of s p ≢ kind.«data» → kind_of s p ≢ kind.value
-      → kind_of s p ≢ kind.list → Makes (kind_of s p) (a_of s p) (b_of s p) x → ¬ Match L N no_attributes (string w ∷ []) x
+      → kind_of s p ≢ kind.list → Makes (kind_of s p) (a_of s p) (b_of s p) x
+      → ¬ Match L N no_attributes (string w ∷ []) x
   no_lone p r f v l (makes_empty e) d = cons≢nil ((stepwise L N pattern.empty).0 d).1
   no_lone p r f v l (makes_not_allowed e) d = (stepwise L N pattern.not_allowed).0 d
   no_lone p r f v l (makes_text e) d = r.no_text e

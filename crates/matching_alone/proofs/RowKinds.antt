@@ -4,7 +4,7 @@ use mathlib.Core.Path.{◌≡◌, sym, ◌∙◌}
 use mathlib.Core.List.{List, []}
 use mathlib.Core.Logic.Iff
 use mathlib.Core.Logic.{inl, inr, ⊎_map, ⊎_elim, ◌≢◌}
-use lib.ListN.{length, get_or}
+use lib.ListN.{get_or}
 use Rattle.tables.specs.Tables.{StringTable}
 use Rattle.strings.specs.Strings.{schema_strings, instance_strings}
 use Rattle.schema.specs.Kinds as kind

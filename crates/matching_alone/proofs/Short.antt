@@ -1,7 +1,7 @@
 -- What a pattern does with one string, and with nothing, by its kind.
 use Prim.Native.Nat.{ℕ}
 use mathlib.Core.Path.{◌≡◌, refl, sym, ◌∙◌, ap}
-use mathlib.Core.Bool.{true, false, true≢false}
+use mathlib.Core.Bool.{true≢false}
 use mathlib.Core.List.{List, [], ◌∷◌, ◌++◌, nil≢cons, head-eq_of_cons-eq, tail-eq_of_cons-eq}
 use mathlib.Core.Logic.{◌⊎◌, inl, inr, ◌↔◌}
 use native.Mathlib.Omega.{arith}
@@ -9,7 +9,7 @@ use borrow.Author.Tests.{eq-eqb}
 use Rattle.schema.specs.Views.{Pattern}
 use Rattle.schema.specs.Views as pattern
 use Rattle.matching_rules.specs.Items.{Item, element, string, Attributes, no_attributes, only, ◌∪◌, Lookups}
-use Rattle.matching_rules.specs.Rules.{Match, group, empty, one_or_more_1, one_or_more_2, interleave}
+use Rattle.matching_rules.specs.Rules.{Match, group, one_or_more_1, one_or_more_2, interleave}
 use Rattle.matching_rules.proofs.Booleans.{none_left, none_right}
 use Rattle.matching_rules.proofs.Interleavings.{Shuffle, shuffle, interleaved, done, left, right}
 use Rattle.matching_rules.proofs.Inversion.{cast, stepwise}

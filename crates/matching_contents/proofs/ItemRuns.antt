@@ -45,7 +45,8 @@ run_nothing it K i (suc n) f = rw (f i (omega arith)) (run_nothing it K (suc i) 
 -- the run over positions that hold the members of a list, by a test on the members
 pub run_members : {A : Type 0} (P : A → Bool) (d : A) (l : List A) (it : ℕ → A) (K : ℕ → Bool) (m : ℕ)
     → length l ≤ m → ((k : ℕ) → k < length l → it k ≡ get_or l k d)
-    → ((k : ℕ) → k < length l → K k ≡ P (get_or l k d)) → ((k : ℕ) → length l ≤ k → K k ≡ false) → run it K 0 m ≡ kept P l
+    → ((k : ℕ) → k < length l → K k ≡ P (get_or l k d)) → ((k : ℕ) → length l ≤ k → K k ≡ false)
+    → run it K 0 m ≡ kept P l
 run_members P d l it K m h f g z =
     let e : m ≡ length l + (m - length l) = omega arith in
     ap (run it K 0) e

@@ -66,7 +66,8 @@ module _ (t : List ℕ) (e : ℕ) where
 
   -- all children are listed where the parent of the next row comes before e
   pub children_all : {before words : List ℕ} {n : ℕ} (r : ℕ) → RightRow t e → e < r → r < nodes_of t
-      → parent_of t r < e → Begins before words (rows_where (is_child t e) r) n → Begins before words (children_of t e) n
+      → parent_of t r < e → Begins before words (rows_where (is_child t e) r) n
+      → Begins before words (children_of t e) n
   children_all r g after within out h = rw (children_to g.right after within out) h
 
 -- ---- rows that become items

@@ -66,4 +66,5 @@ pub children_to : {strings : ℕ} {t : List ℕ} → NodesRight strings t → {e
     → parent_of t r < e → rows_where (is_child t e) (nodes_of t) ≡ rows_where (is_child t e) r
 children_to {t = t} right {e} {r} after within out =
     let same : nodes_of t ≡ r + (nodes_of t - r) = omega arith in
-    rw same (rows_to (is_child t e) r (nodes_of t - r) (λ x h l. no_child_past right after within out x h (omega arith)))
+    rw same
+    (rows_to (is_child t e) r (nodes_of t - r) (λ x h l. no_child_past right after within out x h (omega arith)))

@@ -24,7 +24,7 @@ use Rattle.instance.proofs.Elements.{rooted}
 use Rattle.instance.proofs.Size.{some_node}
 use Rattle.matching_rules.specs.Items.{Item, element, Attributes, no_attributes, Lookups}
 use Rattle.matching_rules.specs.Rules.{Matches, NotMatchBy, choice_1, choice_2}
-use Rattle.matching_rules.specs.Job.{lookups, Valid}
+use Rattle.matching_rules.specs.Job.{lookups}
 use Rattle.matching_rules.proofs.Inversion.{step, against}
 use Rattle.matching_rules.proofs.Passing.{restricted}
 use Rattle.matching_rules.proofs.Paths.{start_starts}
@@ -115,7 +115,8 @@ module _ (s pairs : List ℕ) (p : ℕ) where
         no_first : Matches (lookups (tables_of T s t)) no_attributes (element 0 ∷ []) (pattern_of s p₁) → ⊥
         no_first = rw g at (h₁ T t pass right k.0)
 
-        go : (r : Bool) → Decides (Matches (lookups (tables_of T s t)) no_attributes (element 0 ∷ []) (pattern_of s p₂)) r
+        go : (r : Bool)
+            → Decides (Matches (lookups (tables_of T s t)) no_attributes (element 0 ∷ []) (pattern_of s p₂)) r
             → Decides (Matches (lookups (tables_of T s t)) no_attributes (element 0 ∷ []) (choice p₁ p₂)) r
         go true m = choice_2 m
         go false m = neither (lookups (tables_of T s t)) no_first m

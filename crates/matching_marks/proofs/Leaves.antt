@@ -15,7 +15,7 @@ use Rattle.strings.specs.Strings.{text_of, instance_strings}
 use Rattle.datatypes.specs.Whitespace.{whitespace}
 use Rattle.schema.specs.Kinds as kind
 use Rattle.schema.specs.Rows.{rows_of, kind_of, a_of, b_of}
-use Rattle.schema.specs.Views.{Pattern, pattern_of, text, value, attribute, ref}
+use Rattle.schema.specs.Views.{Pattern, pattern_of}
 use Rattle.instance.specs.Nodes as node
 use Rattle.sets.specs.Bits.{bit}
 use Rattle.sets.proofs.Bits.{bit-and}
@@ -23,11 +23,9 @@ use Rattle.sets.specs.Collecting.{Collects}
 use Rattle.sets.proofs.Collecting.{collected}
 use Rattle.schema.proofs.Patterns.{attribute_at, ref_at}
 use Rattle.matching_rules.specs.Items.{element, string, no_attributes, Lookups}
-use Rattle.matching_rules.specs.Rules.{Match, WeakMatch, NotMatchBy, text_1, text_2, data_1, data_2}
-use Rattle.matching_rules.specs.Rules as rule
+use Rattle.matching_rules.specs.Rules.{Match, WeakMatch, NotMatchBy, text_1, text_2}
 use Rattle.matching_rules.specs.Job.{lookups}
 use Rattle.tables.proofs.Booleans.{or_either, or_left, or_right, and_left, and_right, both_and}
-use Rattle.matching_rules.proofs.Inversion.{One, step}
 use Rattle.matching_rules.proofs.OneElement.{weak_string}
 use Rattle.matching_rules.proofs.Passing.{restricted}
 use Rattle.matching_rules.specs.Reach.{Subpattern, of_attribute}
@@ -76,7 +74,8 @@ module _ {J : Tables} {alone nothing blank pairs items : List ℕ} {e attributes
   Leaf = LeafWord J e attributes (item_at J.strings items texts) (length items)
 
   -- the weak matches of an attribute's value
-  value_fits_lem : (q v : ℕ) → q < rows_of s → v < instance_strings J.strings → (value_fits alone nothing blank q v ≡ true)
+  value_fits_lem : (q v : ℕ) → q < rows_of s → v < instance_strings J.strings
+      → (value_fits alone nothing blank q v ≡ true)
       ↔ WeakMatch L Not no_attributes (string (text_of J.strings v) ∷ []) (pattern_of s q)
   value_fits_lem q v h l = (to, from)
     where

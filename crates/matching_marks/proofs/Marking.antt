@@ -94,7 +94,8 @@ occurs_split (within {q = r} c d o) = inr (r, c, d, o)
 put_same : (P : ℕ → Type 0) (words : List ℕ) (n v : ℕ) → n < length words → P v → P (get_or (set words n v) n 0)
 put_same P words n v h x = rw (get_or-set_same words n v 0 h) x
 
-put_other : (P : ℕ → Type 0) (words : List ℕ) (n r v : ℕ) → r ≢ n → P (get_or words r 0) → P (get_or (set words n v) r 0)
+put_other : (P : ℕ → Type 0) (words : List ℕ) (n r v : ℕ) → r ≢ n → P (get_or words r 0)
+    → P (get_or (set words n v) r 0)
 put_other P words n r v f x = rw (get_or-set_other words n r v 0 (λ e. f (omega arith))) x
 
 module _ (J : Tables) (e attributes : ℕ) (it : ℕ → Item) (items : ℕ) where

@@ -20,7 +20,8 @@ use Rattle.matching_rules.specs.Reach.{Operand, repeated, choice_first, choice_s
 use Rattle.matching_rules.specs.Reach.{group_second, interleave_first, interleave_second, Reaches, here, there}
 use Rattle.matching_rules.proofs.RowPatterns.{Makes, makes_empty, makes_not_allowed, makes_text, makes_data}
 use Rattle.matching_rules.proofs.RowPatterns.{makes_except, makes_value, makes_list, makes_attribute, makes_ref}
-use Rattle.matching_rules.proofs.RowPatterns.{makes_one_or_more, makes_choice, makes_group, makes_interleave, makes_none}
+use Rattle.matching_rules.proofs.RowPatterns.{makes_one_or_more, makes_choice, makes_group, makes_interleave}
+use Rattle.matching_rules.proofs.RowPatterns.{makes_none}
 use Rattle.matching_marks.specs.Tests.{joined_by}
 use Rattle.matching_marks.proofs.RowKinds.{operand_kinds}
 

@@ -10,7 +10,7 @@ use Rattle.tables.specs.Tables.{Tables}
 use Rattle.strings.specs.Strings.{text_of, schema_strings}
 use Rattle.schema.specs.Kinds as kind
 use Rattle.schema.specs.Rows.{kind_of, a_of, b_of}
-use Rattle.schema.specs.Views.{Pattern, pattern_of, attribute, ref}
+use Rattle.schema.specs.Views.{Pattern, pattern_of}
 use Rattle.schema.proofs.Patterns.{attribute_at, ref_at}
 use Rattle.schema_restrictions.specs.Schema.{SchemaPasses}
 use Rattle.sets.specs.Bits.{bit}
@@ -72,7 +72,8 @@ module _ (J : Tables) (pass : SchemaPasses (schema_strings J.strings) J.schema) 
     pub named_attribute : {w : ℕ} → kind_of s p ≡ kind.attribute
         → Collects (attribute_named s t e (a_of s p)) attributes w → Named p w
     named_attribute f c x h =
-        rw (collected c h) (leaf_reaches (omega arith) (ap (names_attribute L (attribute_row e x)) (attribute_at s p f)))
+        rw (collected c h)
+        (leaf_reaches (omega arith) (ap (names_attribute L (attribute_row e x)) (attribute_at s p f)))
 
     pub named_other : {w : ℕ} (named : List ℕ) → kind_of s p ≢ kind.attribute → w ≡ joined_by (kind_of s p)
         (get_or named (a_of s p) 0) (get_or named (b_of s p) 0) → AtOperands s Named named p → Named p w
@@ -102,7 +103,8 @@ module _ (J : Tables) (pass : SchemaPasses (schema_strings J.strings) J.schema) 
     taken_ref f c k i = rw (collected c i) (leaf_reaches (omega arith) (by_item (bit texts k)))
       where
         by_item : (b : Bool) → takes L (cond b (string (text_of J.strings (get_or items k 0)))
-            (element (get_or items k 0))) (pattern_of s p) ≡ (not b && has_name s t (a_of s (a_of s p)) (get_or items k 0))
+            (element (get_or items k 0))) (pattern_of s p)
+            ≡ (not b && has_name s t (a_of s (a_of s p)) (get_or items k 0))
         by_item true = rw (ref_at s p f)
         by_item false = rw (ref_at s p f, ref_definition pass.rows p f)
 

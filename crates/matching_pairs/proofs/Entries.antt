@@ -84,7 +84,8 @@ module _ {J : Tables} {definitions before : List ℕ} {e : ℕ} where
         (λ j m. let i = defs.rising j n m in_List in rw (get_or-set_other now (e * max_rows + d)
         (e * max_rows + get_or definitions j 0) v 0 (λ z. omega arith)) (r.told j m))
         (rw (← is) (rw (get_or-set_same now (e * max_rows + d) v 0 l) p));
-    rest = λ c m f. get_or-set_other now (e * max_rows + d) (e * max_rows + c) v 0 (λ z. f n (omega arith) (omega arith))
+    rest =
+        λ c m f. get_or-set_other now (e * max_rows + d) (e * max_rows + c) v 0 (λ z. f n (omega arith) (omega arith))
         ∙ r.rest c m (λ j h. f j (omega arith));
   }
 

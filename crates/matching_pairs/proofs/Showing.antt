@@ -16,7 +16,7 @@ use Rattle.strings.specs.Strings.{text_of, at_front, instance_strings}
 use Rattle.strings.proofs.Table.{ends_of, some_string}
 use Rattle.datatypes.specs.Whitespace.{whitespace}
 use Rattle.schema.specs.Rows.{rows_of}
-use Rattle.instance.specs.Nodes.{element, nodes_of, a_of}
+use Rattle.instance.specs.Nodes.{nodes_of, a_of}
 use Rattle.instance.specs.Width.{max_width}
 use Rattle.instance.specs.Elements.{is_element, children_of}
 use Rattle.instance.proofs.Elements.{text_string}

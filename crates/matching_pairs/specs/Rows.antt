@@ -1,5 +1,6 @@
 -- One row of the table of pairs while it is filled; cited by private functions only.
-use Rattle.std.specs.Prelude.{ℕ, ◌+◌, ◌*◌, ◌≤◌, ◌<◌, ◌≡◌, Bool, true, false, not, ◌&&◌, List, ◌↔◌, ◌⊎◌, ◌≢◌, eqb, length, get_or, take}
+use Rattle.std.specs.Prelude.{ℕ, ◌+◌, ◌*◌, ◌≤◌, ◌<◌, ◌≡◌, Bool, true, false, not, ◌&&◌, List, ◌↔◌, ◌⊎◌, ◌≢◌, eqb}
+use Rattle.std.specs.Prelude.{length, get_or, take}
 use Rattle.tables.specs.Tables.{StringTable, Tables, tables_of}
 use Rattle.schema.specs.Rows.{rows_of}
 use Rattle.schema.specs.RowRule.{max_rows}

@@ -64,7 +64,8 @@ module _ (s : List ℕ) (p q : ℕ) (o : connective (kind_of s p) ≡ true) wher
       ⊎_elim (λ e. (c, subst (λ (x : ℕ). HasType s x c) e t, h))
       (λ e. (d, subst (λ (x : ℕ). HasType s x d) e u, l)) (child_is i)
 
-  repeat_child_type : {c : ℕ} → kind_of s p ≡ kind.one_or_more → HasType s (child_a s p) c → Child s q p → TypedUpTo s c q
+  repeat_child_type : {c : ℕ} → kind_of s p ≡ kind.one_or_more → HasType s (child_a s p) c → Child s q p
+      → TypedUpTo s c q
   unfolding shape_of
   repeat_child_type {c} e t (by_a n f) =
       let g : child_a s p ≡ q = rw n f in

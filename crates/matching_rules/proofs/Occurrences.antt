@@ -86,7 +86,8 @@ module _ (L : Lookups) where
         → Among y (w ++ item.element e ∷ v) → T y (pattern.ref d) ≡ true
 
     module _ (T : Item → Pattern → Bool) (Good : Item → Type 0)
-        (strings : (s : List ℕ) (x : Pattern) → takes_string x ≡ true → T (string s) x ≡ true) (refs : Refs T Good) where
+        (strings : (s : List ℕ) (x : Pattern) → takes_string x ≡ true → T (string s) x ≡ true)
+        (refs : Refs T Good) where
       one_string_lem : {s : List ℕ} {y : Item} (x : Pattern)
           → takes_string x ≡ true → Among y (string s ∷ []) → Reaches L (T y) x
       one_string_lem {s} x h k = here {x = x} (rw (among_one k) at (strings s x h))

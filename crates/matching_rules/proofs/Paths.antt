@@ -99,7 +99,8 @@ module _ (L : Lookups) where
 module _ {strings : ℕ} {s : List ℕ} (pass : SchemaPasses strings s) where
   -- P holds of every pattern below row p, where it holds of a row by the patterns below the row
   below_all : (P : ℕ → Type 0) (p : ℕ)
-      → ((r : ℕ) → Below s r p → is_pattern (sort_of s r) ≡ true → ((q : ℕ) → Subpattern q (pattern_of s r) → P q) → P r)
+      → ((r : ℕ) → Below s r p → is_pattern (sort_of s r) ≡ true → ((q : ℕ) → Subpattern q (pattern_of s r) → P q)
+      → P r)
       → (n r : ℕ) → r < n → Below s r p → is_pattern (sort_of s r) ≡ true → P r
   below_all P p step zero r h b i = absurd (omega arith)
   below_all P p step (suc n) r h b i =
@@ -115,7 +116,8 @@ module _ {strings : ℕ} {s : List ℕ} (pass : SchemaPasses strings s) where
       let n = some_row in
       last_kind strings s pass.rows (rows_of s - 1) (omega arith) (omega arith)
 
-  start_pattern : Child s (a_of s (rows_of s - 1)) (rows_of s - 1) × (is_pattern (sort_of s (a_of s (rows_of s - 1))) ≡ true)
+  start_pattern : Child s (a_of s (rows_of s - 1)) (rows_of s - 1)
+      × (is_pattern (sort_of s (a_of s (rows_of s - 1))) ≡ true)
   unfolding shape_of
   start_pattern =
       let i = pattern_a strings s pass.rows (rows_of s - 1)
@@ -126,7 +128,8 @@ module _ {strings : ℕ} {s : List ℕ} (pass : SchemaPasses strings s) where
   start_child = start_pattern.0
 
   in_start_right : (r : ℕ) → Below s r (rows_of s - 1) → not_in_start (kind_of s r) ≡ false
-  in_start_right r b = is_false (not_in_start (kind_of s r)) (λ f. pass.paths r (in_start (rows_of s - 1) f start_kind b))
+  in_start_right r b =
+      is_false (not_in_start (kind_of s r)) (λ f. pass.paths r (in_start (rows_of s - 1) f start_kind b))
 
 module _ {strings : ℕ} (J : Tables) (pass : SchemaPasses strings J.schema) where
   pub excepts_plain : (p d q : ℕ) → pattern_of J.schema p ≡ data_except d q

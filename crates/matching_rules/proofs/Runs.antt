@@ -108,4 +108,5 @@ module _ {A : Type 0} where
   unfolding run kept
   run_list P d [] = refl
   run_list P d (x ∷ l) =
-      ap (added (P x) x) (run_shift (λ k. get_or (x ∷ l) k d) (λ k. P (get_or (x ∷ l) k d)) 0 (length l) ∙ run_list P d l)
+      ap (added (P x) x)
+      (run_shift (λ k. get_or (x ∷ l) k d) (λ k. P (get_or (x ∷ l) k d)) 0 (length l) ∙ run_list P d l)

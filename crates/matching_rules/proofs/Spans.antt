@@ -8,7 +8,7 @@ use mathlib.Core.Logic.Iff
 use mathlib.Core.Logic.{inl, inr, ◌↔◌}
 use native.Mathlib.Omega.{arith}
 use Rattle.schema.specs.Views.{Pattern, empty, not_allowed, text, attribute, ref, choice, no_pattern}
-use Rattle.relations.specs.Relations.{Relation, Or}
+use Rattle.relations.specs.Relations.{Or}
 use Rattle.matching_rules.specs.Items.{Item, element, string, Attributes, no_attributes, Lookups}
 use Rattle.matching_rules.specs.Rules.{Match, ws_empty}
 use Rattle.matching_rules.specs.Reach.{role_of, one_string}

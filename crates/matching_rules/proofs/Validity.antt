@@ -28,7 +28,8 @@ below_child (deeper {q = q} c b) = (q, c, inr b)
 
 module _ {s : List ℕ} {p q : ℕ} where
   -- the children of a row of kind k, where field b, or both fields, name none
-  field_a_child : (k : ℕ) → ((x : ℕ) → names s p (shape_of k).b x ≡ false) → kind_of s p ≡ k → Child s q p → a_of s p ≡ q
+  field_a_child : (k : ℕ) → ((x : ℕ) → names s p (shape_of k).b x ≡ false) → kind_of s p ≡ k → Child s q p
+      → a_of s p ≡ q
   field_a_child k f e (by_a n g) = g
   field_a_child k f e (by_b n g) = absurd (false≢true (sym (f (b_of s p)) ∙ rw e at n))
 

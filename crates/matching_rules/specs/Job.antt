@@ -1,5 +1,5 @@
 -- The lookups of a job's four tables, the pairs of an element and a definition, and (valid) of ISO/IEC 19757-2, 9.4.
-use Rattle.std.specs.Prelude.{ℕ, zero, suc, ◌-◌, ◌<◌, ◌≡◌, Bool, true, cond, List, [], ◌∷◌, map}
+use Rattle.std.specs.Prelude.{ℕ, zero, suc, ◌-◌, ◌<◌, ◌≡◌, true, cond, List, [], ◌∷◌, map}
 use Rattle.tables.specs.Tables.{Tables}
 use Rattle.strings.specs.Strings.{text_of}
 use Rattle.datatypes.specs.Whitespace.{whitespace, string_equal, token_equal}
@@ -9,7 +9,7 @@ use Rattle.schema.specs.Kinds as kind
 use Rattle.schema.specs.Views.{pattern_of}
 use Rattle.schema.specs.Relations.{Below}
 use Rattle.schema_classes.specs.Membership.{in_class}
-use Rattle.instance.specs.Nodes.{kind_of, a_of, b_of, c_of, nodes_of, is_attribute, SameName}
+use Rattle.instance.specs.Nodes.{a_of, b_of, c_of, nodes_of, is_attribute, SameName}
 use Rattle.instance.specs.Elements.{is_element, children_of}
 use Rattle.matching_rules.specs.Items.{Item, element, string, no_attributes, Lookups}
 use Rattle.matching_rules.specs.Rules.{Matches, Proved}

@@ -1,6 +1,6 @@
 -- How patterns stand to each other, over the lookups: roles, operands, parts, and what a pattern reaches through
 -- choice, group, interleave and oneOrMore alone.
-use Rattle.std.specs.Prelude.{ℕ, ◌≡◌, Bool, true, false, ◌&&◌, List}
+use Rattle.std.specs.Prelude.{ℕ, ◌≡◌, Bool, true, false, ◌&&◌}
 use Rattle.schema.specs.Views.{Pattern, empty, not_allowed, text, data_all, data_except, value, list}
 use Rattle.schema.specs.Views.{attribute, ref, one_or_more, choice, group, interleave, no_pattern}
 use Rattle.matching_rules.specs.Items.{Item, element, string, Lookups}

@@ -1,5 +1,5 @@
 -- What matching needs of a schema, stated over the lookups. Every schema that passes has it (proofs/Passing).
-use Rattle.std.specs.Prelude.{ℕ, ◌≤◌, ◌<◌, ◌≡◌, Bool, true, List}
+use Rattle.std.specs.Prelude.{ℕ, ◌≤◌, ◌<◌, ◌≡◌, true}
 use Rattle.schema.specs.Views.{Pattern, empty, not_allowed, data_all, data_except, value}
 use Rattle.schema.specs.Views.{list, ref, one_or_more, choice, group, interleave, no_pattern}
 use Rattle.matching_rules.specs.Items.{Item, Lookups}

@@ -124,7 +124,8 @@ module _ (T : StringTable) (s : List ℕ) (row : ℕ) where
     fits_all e f t = rw (data_at s row e f) data_1
 
     pub fits_value : kind_of s row ≡ kind.value → (r : Bool)
-        → Decides (datatype_equal (a_of s row) token (text_of T (b_of s row))) r → DecidesAt T s row (string token ∷ []) r
+        → Decides (datatype_equal (a_of s row) token (text_of T (b_of s row))) r
+        → DecidesAt T s row (string token ∷ []) r
     fits_value e r d t =
         let y = stepwise (L T s t) (N T s t) (pattern.value (a_of s row) (b_of s row)) in
         decides_same r (λ z. rw (value_at s row e) (value z)) (λ z. the_one (y.0 (rw (value_at s row e) at z)).1) d
@@ -135,9 +136,11 @@ module _ (T : StringTable) (s : List ℕ) (row : ℕ) where
       where
         denied : N T s t token (b_of s row)
             ↔ ¬ Match (L T s t) (N T s t) no_attributes (string token ∷ []) (pattern_of s (b_of s row))
-        denied = not_match (restricted (tables_of T s t) passes) row (a_of s row) (b_of s row) (except_at s row e f) token
+        denied =
+            not_match (restricted (tables_of T s t) passes) row (a_of s row) (b_of s row) (except_at s row e f) token
 
-        go : (r : Bool) → Decides (Match (L T s t) (N T s t) no_attributes (string token ∷ []) (pattern_of s (b_of s row)))
+        go : (r : Bool)
+            → Decides (Match (L T s t) (N T s t) no_attributes (string token ∷ []) (pattern_of s (b_of s row)))
             r → Decides (Match (L T s t) (N T s t) no_attributes (string token ∷ []) (pattern_of s row)) (not r)
         go true m =
             λ n. denied.0 (the_one ((stepwise (L T s t) (N T s t)
@@ -149,7 +152,8 @@ module _ (T : StringTable) (s : List ℕ) (row : ℕ) where
     fits_first e d f t = rw (choice_at s row e) (choice_1 (subst (Decides _) f (d t)))
 
     pub fits_second : kind_of s row ≡ kind.choice → {q : Bool} → DecidesAt T s (a_of s row) (string token ∷ []) q → q
-        ≡ false → (r : Bool) → DecidesAt T s (b_of s row) (string token ∷ []) r → DecidesAt T s row (string token ∷ []) r
+        ≡ false → (r : Bool) → DecidesAt T s (b_of s row) (string token ∷ []) r
+        → DecidesAt T s row (string token ∷ []) r
     fits_second e {q} c f r d t =
         let y = stepwise (L T s t) (N T s t) {a = no_attributes}
         {m = string token ∷ []} (pattern.choice (a_of s row) (b_of s row)) in

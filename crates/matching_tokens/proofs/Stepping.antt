@@ -105,7 +105,8 @@ module _ (T : StringTable) (s : List ℕ) (row : ℕ) (enter : Bool) (token : Li
       (answer : Bool) (given : inner ≡ (enter && true || marked before a))
       (below : Steps T s a inner token before middle answer) (store : after ≡ set middle row (mark answer)) where
     more_here : (t : List ℕ) (q : Tree) (h : List Read) → a < row → ShowsAt T s t a q → Proper q
-        → HoldsMarks before (one_or_more row q) h → Stepped (one_or_more row q) (read enter token ∷ h) before after answer
+        → HoldsMarks before (one_or_more row q) h
+        → Stepped (one_or_more row q) (read enter token ∷ h) before after answer
     unfolding done
     more_here t q h l shows proper c =
         let old = holds_own before q (again (done q) h) shows c.1 in

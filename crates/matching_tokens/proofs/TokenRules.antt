@@ -1,7 +1,7 @@
 -- What the rules of 9.3 say of a sequence of tokens with no attributes, by the kind of pattern. Tokens stand newest
 -- first.
 use mathlib.Core.Path.{◌≡◌, refl, sym, ◌∙◌, ap, subst}
-use mathlib.Core.Bool.{Bool, true, false, false≢true}
+use mathlib.Core.Bool.{Bool, true, false≢true}
 use mathlib.Core.Logic.{◌⊎◌, inl, inr, ◌↔◌}
 use mathlib.Core.List.{List, [], ◌∷◌, ◌++◌, map, map-append, reverse, reverse-append, reverse-reverse}
 use Prim.Native.Nat.{ℕ}

@@ -37,7 +37,8 @@ module _ (m : ℕ) (w : List ℕ) {i a b : ℕ} (l : i < m) (x : a ≡ get_or w 
   }
 
 -- v is gathered from the words from 64 to end, which are as they were
-pub then_row : (m : ℕ) (w₀ w : List ℕ) {i a v end : ℕ} → i < m → a ≡ get_or w₀ i 0 → drop positions w ≡ drop positions w₀
+pub then_row : (m : ℕ) (w₀ w : List ℕ) {i a v end : ℕ} → i < m → a ≡ get_or w₀ i 0
+    → drop positions w ≡ drop positions w₀
     → end ≡ positions + m → Image a (take (end - positions) (drop positions w)) v
     → Row (Then (WordsRelate (front m w₀)) (WordsRelate (next m w₀))) i v
 then_row m w₀ w {i} {a} {v} {end} l x same e im = record {

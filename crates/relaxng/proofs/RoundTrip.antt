@@ -24,7 +24,7 @@ use Rattle.job_reader.specs.declared.JobRead.TheVariants.{Read, NotRead}
 use Rattle.job_writer.specs.Promises.{WriteJob, too_many_rows, broken_length, too_long, too_short}
 use Rattle.job_writer.proofs.Job.{Chain}
 use Rattle.job_writer.specs.declared.JobWritten.TheVariants.{Written}
-use Rattle.relaxng.specs.RoundTrip.{MachineWords, LongEnough, ReadsJob, ReadsBack, RoundTrip}
+use Rattle.relaxng.specs.RoundTrip.{MachineWords, LongEnough, RoundTrip}
 
 module _ (J : Tables) where
   -- the chain of the writer, passed

@@ -1,5 +1,5 @@
 -- The promise of the match list fixes the answer and every word of the list.
-use Prim.Native.Nat.{ℕ, ◌<◌}
+use Prim.Native.Nat.{ℕ}
 use mathlib.Core.Path.{◌≡◌, refl, sym, ◌∙◌, ap, ap₂}
 use mathlib.Core.List.{List}
 use mathlib.Core.Logic.{◌≢◌, ⊎_elim}
@@ -7,14 +7,14 @@ use native.Mathlib.Omega.{arith}
 use lib.ListN.{length}
 use Rattle.tables.specs.Tables.{Tables}
 use Rattle.tables.specs.Outputs.{laid}
-use Rattle.tables.specs.Refusals.{Tries, refused, goes_on, Passes}
+use Rattle.tables.specs.Refusals.{Tries, refused, goes_on}
 use Rattle.tables.specs.declared.Verdict.{Verdict}
-use Rattle.tables.specs.declared.Verdict.TheVariants.{Passed, Refused}
+use Rattle.tables.specs.declared.Verdict.TheVariants.{Refused}
 use Rattle.job.proofs.Decimals.{lt_or_ge}
 use Rattle.matching_rules.specs.Listed.{pair_words}
 use Rattle.matching_rules.proofs.Uniqueness.{unique}
 use Rattle.relaxng.specs.Answers.{match_verdict, pair_count}
-use Rattle.relaxng.specs.Matching.{InstanceRefusal, Matched, ListsMatches, ListTooShort}
+use Rattle.relaxng.specs.Matching.{Matched, ListsMatches}
 use Rattle.relaxng.specs.declared.MatchAnswer.{MatchAnswer}
 use Rattle.relaxng.specs.declared.MatchAnswer.TheVariants.{Valid, NotValid, NotMatched}
 use Rattle.relaxng.proofs.Refused.{refused_passed, tries_coded, passes_coded}

@@ -1,5 +1,6 @@
 -- What each case of an answer says (FORMAT, "Calls and outputs"): of refusal, as a verdict, whose code and place are
--- `code_of` and `place_of` of it, 0 and 0 where nothing is refused; yes or no, and the row; the name or none; the number
+-- `code_of` and `place_of` of it, 0 and 0 where nothing is refused; yes or no, and the row; the name or none; the
+-- number
 -- of pairs.
 use Rattle.std.specs.Prelude.{ℕ, Bool, true, false}
 use Rattle.tables.specs.declared.Verdict.{Verdict}

@@ -1,7 +1,7 @@
 -- What a job file reads as fits the tables that are lent, and comes back from their fronts.
 use Prim.Native.Nat.{ℕ, ◌*◌, ◌≤◌, ◌<◌}
-use mathlib.Core.Path.{◌≡◌, refl, sym, ◌∙◌, ap, subst}
-use mathlib.Core.Bool.{Bool, true, false, cond}
+use mathlib.Core.Path.{◌≡◌, refl, ◌∙◌, ap, subst}
+use mathlib.Core.Bool.{true}
 use mathlib.Core.List.{List, ◌++◌}
 use native.Mathlib.Decide.{dec_lt}
 use native.Mathlib.Omega.{arith}
@@ -23,10 +23,10 @@ use Rattle.job_reader.specs.declared.JobRead.{JobRead}
 use Rattle.job_reader.specs.declared.JobRead.TheVariants.{Read, NotRead}
 use Rattle.relaxng.specs.Answers.{match_verdict, pair_count}
 use Rattle.tables.specs.Refusals.{code_of}
-use Rattle.relaxng.specs.Matching.{ListsMatches, Matched}
+use Rattle.relaxng.specs.Matching.{ListsMatches}
 use Rattle.relaxng.specs.declared.MatchAnswer.{MatchAnswer}
 use Rattle.job_texts.specs.Writing.{TextIn}
-use Rattle.report.specs.Report.{list_room, work_room, answer_text, Reports, not_read, answered, Reported, Answered}
+use Rattle.report.specs.Report.{list_room, work_room, answer_text, not_read, answered, Reported, Answered}
 
 -- the tables that the program lends
 abbrev pub lent : Room

@@ -25,7 +25,8 @@ module _ (strings : ℕ) (s : List ℕ) (right : RowsRight strings s) (r : ℕ) 
 
   fields : (field_right strings s r (shape_of (kind_of s r)).a (a_of s r)
       && field_right strings s r (shape_of (kind_of s r)).b (b_of s r)) ≡ true
-  fields = (and_both _ (sort_right (sort_of s r) (uses_before s r (rows_of s)) (eqb (r + 1) (rows_of s))) row_right_lem).0
+  fields =
+      (and_both _ (sort_right (sort_of s r) (uses_before s r (rows_of s)) (eqb (r + 1) (rows_of s))) row_right_lem).0
 
   pub both_fields : (field_right strings s r (shape_of (kind_of s r)).a (a_of s r) ≡ true)
       × (field_right strings s r (shape_of (kind_of s r)).b (b_of s r) ≡ true)

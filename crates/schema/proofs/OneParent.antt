@@ -71,7 +71,8 @@ named_sort s p Datatype x e = absurd (false≢true e)
 named_sort s p StringNumber x e = absurd (false≢true e)
 named_sort s p Local x e = absurd (false≢true e)
 
-pub child_sort : {s : List ℕ} {r p : ℕ} → Child s r p → (is_pattern (sort_of s r) ≡ true) ⊎ (is_class (sort_of s r) ≡ true)
+pub child_sort : {s : List ℕ} {r p : ℕ} → Child s r p → (is_pattern (sort_of s r) ≡ true)
+    ⊎ (is_class (sort_of s r) ≡ true)
 child_sort {s} {r} {p} (by_a n e) = rw e at (named_sort s p (shape_of (kind_of s p)).a (a_of s p) n)
 child_sort {s} {r} {p} (by_b n e) = rw e at (named_sort s p (shape_of (kind_of s p)).b (b_of s p) n)
 

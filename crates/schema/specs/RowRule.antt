@@ -1,5 +1,6 @@
 -- The rule of schema rows, from FORMAT, "Schema rows", and code 2 of FORMAT, "Codes and places".
-use Rattle.std.specs.Prelude.{ℕ, zero, suc, ◌+◌, ◌<◌, ◌%◌, ◌≡◌, ◌≢◌, Bool, false, not, cond, ◌&&◌, ◌||◌, List, length, ltb, eqb}
+use Rattle.std.specs.Prelude.{ℕ, zero, suc, ◌+◌, ◌<◌, ◌%◌, ◌≡◌, ◌≢◌, Bool, false, not, cond, ◌&&◌, ◌||◌, List, length}
+use Rattle.std.specs.Prelude.{ltb, eqb}
 use Rattle.schema.specs.Kinds.{no_row}
 use Rattle.schema.specs.Rows.{rows_of, kind_of, a_of, b_of, shape_of, sort_of, is_element, names, child_a, child_b}
 use Rattle.schema.specs.declared.Sort.{Sort}

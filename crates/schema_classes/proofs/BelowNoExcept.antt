@@ -56,10 +56,12 @@ module _ {s : List ℕ} {q c : ℕ} where
   unfolding shape_of
   member_class k (by_a e f) =
       let g : (ltb (a_of s c) c && is_class (sort_of s (a_of s c))) ≡ true = rw k at e in
-      subst (λ (x : ℕ). is_class (sort_of s x) ≡ true) f (and_right (ltb (a_of s c) c) (is_class (sort_of s (a_of s c))) g)
+      subst (λ (x : ℕ). is_class (sort_of s x) ≡ true) f
+      (and_right (ltb (a_of s c) c) (is_class (sort_of s (a_of s c))) g)
   member_class k (by_b e f) =
       let g : (ltb (b_of s c) c && is_class (sort_of s (b_of s c))) ≡ true = rw k at e in
-      subst (λ (x : ℕ). is_class (sort_of s x) ≡ true) f (and_right (ltb (b_of s c) c) (is_class (sort_of s (b_of s c))) g)
+      subst (λ (x : ℕ). is_class (sort_of s x) ≡ true) f
+      (and_right (ltb (b_of s c) c) (is_class (sort_of s (b_of s c))) g)
 
   -- a class that has a part, which is no except, is a choice
   has_member : {r : ℕ} → is_class (sort_of s c) ≡ true → Child s q c → In s r q → ¬ InExcept s c r

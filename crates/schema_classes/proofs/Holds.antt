@@ -31,7 +31,8 @@ module _ (s : List ℕ) (u l row : ℕ) where
       holds_any_name e = rw (sym read.kind ∙ e, ← read.first) (go (eqb a kind.no_row) refl)
         where
           go : (t : Bool) → eqb a kind.no_row ≡ t
-              → member_by (upto (step s u l) row) u l (cond t any_name (any_name_except a)) ≡ not (upto (step s u l) row a)
+              → member_by (upto (step s u l) row) u l (cond t any_name (any_name_except a))
+              ≡ not (upto (step s u l) row a)
           go true f = let g = eqb-true a kind.no_row f in rw (upto_above (step s u l) row a (omega arith))
           go false f = refl
 
@@ -50,7 +51,8 @@ module _ (s : List ℕ) (u l row : ℕ) where
     unfolding holds class_by
     holds_name e = rw (read.first, read.second, sym read.kind ∙ e)
 
-    pub holds_name_choice : k ≡ kind.name_choice → holds s u l row ≡ (upto (step s u l) row a || upto (step s u l) row b)
+    pub holds_name_choice : k ≡ kind.name_choice
+        → holds s u l row ≡ (upto (step s u l) row a || upto (step s u l) row b)
     unfolding holds class_by
     holds_name_choice e = rw (read.first, read.second, sym read.kind ∙ e)
 

@@ -86,7 +86,8 @@ module _ {s : List ℕ} (rows : rows_of s ≤ max_rows) {P : ℕ → Type 0} (de
           through : {m : ℕ} → Child s m c → SomeRow s m P → SomeRow s c P
           through i y = record { row = y.row; inside = within e i y.inside; has = y.has }
 
-          fields : Dec ((child_a s c < c) × SomeRow s (child_a s c) P) → Dec ((child_b s c < c) × SomeRow s (child_b s c) P)
+          fields : Dec ((child_a s c < c) × SomeRow s (child_a s c) P)
+              → Dec ((child_b s c < c) × SomeRow s (child_b s c) P)
               → Dec (SomeRow s c P)
           fields (yes (l, y)) d = yes (through (child_a_lem s c low l) y)
           fields (no y) (yes (l, z)) = yes (through (child_b_lem s c low l) z)

@@ -27,7 +27,8 @@ module _ (s : List ℕ) (r : ℕ) where
 
   -- attributes on the two sides of a group or interleave
   pub sharing_decides : sharing_kind (kind_of s r) ≡ true → (x : Bool)
-      → Decides (Somewhere s (Suits s (AttributeMeeting (child_b s r))) (child_a s r)) x → Decides (AttributeFault s r) x
+      → Decides (Somewhere s (Suits s (AttributeMeeting (child_b s r))) (child_a s r)) x
+      → Decides (AttributeFault s r) x
   sharing_decides p x = decides_same x to from
     where
       to : Somewhere s (Suits s (AttributeMeeting (child_b s r))) (child_a s r) → AttributeFault s r
@@ -40,7 +41,8 @@ module _ (s : List ℕ) (r : ℕ) where
       from (not_repeated k i n) = absurd (not_sharing k p)
 
   -- another row that is no attribute
-  pub no_attribute_fault : sharing_kind (kind_of s r) ≡ false → (kind_of s r ≡ kind.attribute → ⊥) → ¬ AttributeFault s r
+  pub no_attribute_fault : sharing_kind (kind_of s r) ≡ false → (kind_of s r ≡ kind.attribute → ⊥)
+      → ¬ AttributeFault s r
   no_attribute_fault p n (duplicate x y u l q o k o' k' c) = true≢false (sym q ∙ p)
   no_attribute_fault p n (not_repeated k i m) = n k
 

@@ -1,6 +1,6 @@
 -- A name class that is infinite is one itself or has an infinite child.
 use mathlib.Core.Path.{◌≡◌, ◌∙◌, sym}
-use mathlib.Core.Bool.{true, false, false≢true}
+use mathlib.Core.Bool.{true, false≢true}
 use mathlib.Core.List.{List}
 use Prim.Native.Nat.{ℕ}
 use borrow.Author.Tests.{ne_eqb}
@@ -31,5 +31,6 @@ by_children s c e f g = record { up = up; down = down }
     down : Infinite s c → (q : ℕ) × Child s q c × Infinite s q
     down (of_wildcard w) =
         absurd (false≢true (sym
-        (rw (ne_eqb (kind_of s c) kind.any_name (λ x. f (e ∙ x)), ne_eqb (kind_of s c) kind.ns_name (λ x. g (e ∙ x)))) ∙ w))
+        (rw (ne_eqb (kind_of s c) kind.any_name (λ x. f (e ∙ x)), ne_eqb (kind_of s c) kind.ns_name (λ x. g (e ∙ x))))
+        ∙ w))
     down (has_wildcard d b w) = below b w

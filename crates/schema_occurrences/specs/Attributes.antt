@@ -17,7 +17,8 @@ pub data Infinite (s : List ℕ) (c : ℕ) : Type 0 where
 
 -- code 7 at row r
 pub data AttributeFault (s : List ℕ) (r : ℕ) : Type 0 where
-  duplicate : (x y u l : ℕ) → sharing_kind (kind_of s r) ≡ true → Occurs s x (child_a s r) → kind_of s x ≡ kind.attribute
+  duplicate : (x y u l : ℕ) → sharing_kind (kind_of s r) ≡ true → Occurs s x (child_a s r)
+      → kind_of s x ≡ kind.attribute
       → Occurs s y (child_b s r) → kind_of s y ≡ kind.attribute → Common s (child_a s x) (child_a s y) u l
       → AttributeFault s r
   not_repeated : kind_of s r ≡ kind.attribute → Infinite s (child_a s r)

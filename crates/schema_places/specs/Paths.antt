@@ -22,7 +22,8 @@ not_in_except k =
 
 abbrev pub not_in_start : ℕ → Bool
 not_in_start k =
-    eqb k kind.attribute || eqb k kind.«data» || eqb k kind.value || eqb k kind.list || eqb k kind.text || sharing_kind k
+    eqb k kind.attribute || eqb k kind.«data» || eqb k kind.value || eqb k kind.list || eqb k kind.text
+    || sharing_kind k
     || eqb k kind.one_or_more
     || eqb k kind.empty
 

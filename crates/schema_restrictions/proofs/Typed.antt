@@ -95,7 +95,8 @@ module _ {strings : ℕ} {s : List ℕ} (p : SchemaPasses strings s) where
         pair e refl (side_a e (λ z. omega arith) refl (λ z. omega arith) refl)
         (side_b e (λ z. omega arith) refl (λ z. omega arith) refl)
 
-  up_to : (n r : ℕ) → r < n → is_pattern (sort_of s r) ≡ true → kind_of s r ≢ kind.not_allowed → ¬ InList s r → Typed s r
+  up_to : (n r : ℕ) → r < n → is_pattern (sort_of s r) ≡ true → kind_of s r ≢ kind.not_allowed → ¬ InList s r
+      → Typed s r
   up_to zero r h i f o = absurd (omega arith)
   up_to (suc n) r h i f o = by_kind r o (λ q l. up_to n q (omega arith)) (pattern_kind (kind_of s r) i) f
 

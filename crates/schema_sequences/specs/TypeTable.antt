@@ -1,5 +1,6 @@
 -- The table of content types, and what one row's type is by those of its children; cited by private functions only.
-use Rattle.std.specs.Prelude.{ℕ, max, ◌<◌, ◌≡◌, Bool, true, false, not, cond, ◌&&◌, ◌||◌, List, length, get_or, ltb, eqb}
+use Rattle.std.specs.Prelude.{ℕ, max, ◌<◌, ◌≡◌, Bool, true, false, not, cond, ◌&&◌, ◌||◌, List, length, get_or, ltb}
+use Rattle.std.specs.Prelude.{eqb}
 use Rattle.schema.specs.Kinds as kind
 use Rattle.schema.specs.RowRule.{max_rows}
 use Rattle.schema_places.specs.Paths.{sharing_kind}

@@ -1,5 +1,5 @@
 -- Strings with one hash are linked, so that a text is compared with few others.
-use Prim.Native.Nat.{ℕ, zero, suc, ◌+◌, ◌-◌, ◌≤◌, ◌<◌}
+use Prim.Native.Nat.{ℕ, suc, ◌+◌, ◌≤◌, ◌<◌}
 use mathlib.Core.Path.{◌≡◌, sym, ◌∙◌, ap}
 use mathlib.Core.Logic.{◌≢◌}
 use mathlib.Core.List.{List}
@@ -62,7 +62,8 @@ module _ {T : StringTable} where
     each = λ h l. go h l (ℕ_discrete h (hash_at T n));
   }
     where
-      go : (h : ℕ) → h < max_strings → Dec (h ≡ hash_at T n) → LastOf T h (n + 1) (get_or (set last (hash_at T n) v) h 0)
+      go : (h : ℕ) → h < max_strings → Dec (h ≡ hash_at T n)
+          → LastOf T h (n + 1) (get_or (set last (hash_at T n) v) h 0)
       go h l (yes e) =
           rw (e, get_or-set_same last (hash_at T n) v 0 (omega (arith, s.size, hash_less (text_of T n))), ve)
           (record {

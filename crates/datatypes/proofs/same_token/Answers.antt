@@ -1,6 +1,5 @@
 -- The invariant: the texts are equal as tokens exactly when what remains of their normalized forms is. The measure:
 -- what is left of a.
-use Prim.Native.Nat.{◌-◌}
 use native.Mathlib.Omega.{arith}
 use Rattle.datatypes.proofs.Tokens.{remains_all, remains_end}
 use Rattle.datatypes.proofs.Tokens.{remains_longer, remains_other, remains_next}

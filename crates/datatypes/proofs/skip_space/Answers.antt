@@ -1,5 +1,4 @@
 -- The invariant: trimming gives the same from the position reached as from the start.
-use Prim.Native.Nat.{◌-◌}
 use mathlib.Core.Path.{refl, sym, ◌∙◌}
 use native.Mathlib.Nat.{le-max_left}
 use native.Mathlib.Omega.{arith}

@@ -1,7 +1,5 @@
 -- The invariant: no whitespace character stands at the positions passed.
-use Prim.Native.Nat.{◌-◌}
 use mathlib.Core.Path.{sym, ◌∙◌}
-use mathlib.Core.Bool.{false}
 use native.Mathlib.Nat.{le-max_left, le-max_right}
 use native.Mathlib.Omega.{arith}
 use borrow.Author.Count.{below_more}

@@ -7,7 +7,8 @@ use Rattle.datatypes.specs.Whitespace.{space}
 use Rattle.datatypes.proofs.token_end.Given as goal
 
 abbrev pub invariant-loop-to : goal.invariant-loop-to
-invariant-loop-to l = (l.from ≤ l.to) × (l.to ≤ max l.from (length l.s)) × ((i : ℕ) → i < l.to → l.from ≤ i → space (get_or l.s i 0) ≡ false)
+invariant-loop-to l = (l.from ≤ l.to) × (l.to ≤ max l.from (length l.s))
+    × ((i : ℕ) → i < l.to → l.from ≤ i → space (get_or l.s i 0) ≡ false)
 
 abbrev pub decreases-loop-to : goal.decreases-loop-to
 decreases-loop-to l = length l.s - l.to

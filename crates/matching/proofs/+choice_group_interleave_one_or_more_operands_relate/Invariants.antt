@@ -3,7 +3,6 @@
 
 -- The needs of each function of the cycle. What the words of each kind answer are the laws of Answering.
 use Prim.Native.Nat.{◌+◌, ◌*◌}
-use Prim.Native.Nat.{◌-◌}
 use Rattle.matching.proofs.+choice_group_interleave_one_or_more_operands_relate.Given as goal
 
 abbrev pub decreases-choice : goal.decreases-choice

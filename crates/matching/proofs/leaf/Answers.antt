@@ -1,5 +1,5 @@
 -- Each kind by its law of Answering.
-use mathlib.Core.Logic.{◌⊎◌, inl, inr}
+use mathlib.Core.Logic.{inl, inr}
 use native.Mathlib.Omega.{arith}
 use Rattle.matching.proofs.Answering.{answers_empty, answers_text, answers_item}
 use Rattle.matching.proofs.Answering.{answers_attribute, answers_nothing}

@@ -1,5 +1,4 @@
 -- The gaps where the one attribute is marked, and otherwise nothing.
-use mathlib.Core.Logic.{⊎_elim}
 use mathlib.Core.Path.{sym, ◌∙◌}
 use Rattle.matching.proofs.Conditions.{where_holds, where_fails, one_in, one_in_counts, one_in_tests}
 use Rattle.matching.proofs.one_attribute.Goals as goal

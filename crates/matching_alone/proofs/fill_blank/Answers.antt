@@ -1,5 +1,4 @@
 -- The first k strings are told.
-use Prim.Native.Nat.{◌-◌}
 use Rattle.tables.specs.Tables.{string_table}
 use Rattle.matching_alone.proofs.Filling.{blank_more}
 use lib.ListN.{length-set}

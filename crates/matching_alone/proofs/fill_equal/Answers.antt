@@ -1,6 +1,5 @@
 -- The first k entries are told by the texts.
 use Rattle.matching_alone.proofs.Filling.{row_none, row_more, row_less}
-use Prim.Native.Nat.{◌-◌}
 use native.Mathlib.Omega.{arith}
 use Rattle.matching_alone.proofs.fill_equal.Goals as goal
 

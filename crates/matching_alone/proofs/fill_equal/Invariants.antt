@@ -6,7 +6,8 @@ use Prim.Native.Nat.{◌-◌, ◌≤◌}
 use Rattle.matching_alone.proofs.fill_equal.Given as goal
 
 abbrev pub invariant-loop-k : goal.invariant-loop-k
-invariant-loop-k l = (l.k ≤ length l.ends) × RowOf (EqualTo (string_table l.bytes l.ends) l.datatype l.v) l.initial.alone l.alone l.p l.k
+invariant-loop-k l =
+    (l.k ≤ length l.ends) × RowOf (EqualTo (string_table l.bytes l.ends) l.datatype l.v) l.initial.alone l.alone l.p l.k
 
 abbrev pub decreases-loop-k : goal.decreases-loop-k
 decreases-loop-k l = length l.ends - l.k

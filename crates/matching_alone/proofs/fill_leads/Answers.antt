@@ -1,5 +1,4 @@
 -- The leads of the first k strings are right.
-use Prim.Native.Nat.{◌-◌}
 use Rattle.tables.specs.Tables.{string_table}
 use Rattle.matching_alone.proofs.Leads.{leads_more}
 use lib.ListN.{length-set}

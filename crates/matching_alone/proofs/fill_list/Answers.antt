@@ -1,5 +1,5 @@
 -- The first k entries are told by the tokens.
-use Prim.Native.Nat.{ℕ, ◌-◌}
+use Prim.Native.Nat.{ℕ}
 use native.Mathlib.Omega.{arith}
 use lib.ListN.{length-replicate}
 use Rattle.matching_alone.proofs.Entries.{list_ready}

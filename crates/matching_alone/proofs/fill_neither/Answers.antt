@@ -1,6 +1,5 @@
 -- The first k entries are told by row a, which is as it was.
 use Rattle.matching_alone.proofs.Filling.{row_none, row_more, row_reads, row_less}
-use Prim.Native.Nat.{◌-◌}
 use native.Mathlib.Omega.{arith}
 use Rattle.matching_alone.proofs.fill_neither.Goals as goal
 

@@ -1,5 +1,5 @@
 -- The rows before p are right.
-use Prim.Native.Nat.{ℕ, ◌-◌}
+use Prim.Native.Nat.{ℕ}
 use Rattle.tables.specs.Tables.{string_table}
 use Rattle.matching_alone.proofs.Filling.{rows_none, rows_more}
 use Rattle.matching_alone.specs.Alone.{Alone}

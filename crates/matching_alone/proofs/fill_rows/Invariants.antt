@@ -7,7 +7,8 @@ use mathlib.Core.Path.{◌≡◌}
 use Rattle.matching_alone.proofs.fill_rows.Given as goal
 
 abbrev pub invariant-loop-p : goal.invariant-loop-p
-invariant-loop-p l = (l.p ≤ l.rows) × (length l.alone ≡ length l.initial.alone) × (length l.nothing ≡ length l.initial.nothing)
+invariant-loop-p l =
+    (l.p ≤ l.rows) × (length l.alone ≡ length l.initial.alone) × (length l.nothing ≡ length l.initial.nothing)
     × Alone (string_table l.bytes l.ends) l.schema l.alone l.nothing l.p
 
 abbrev pub decreases-loop-p : goal.decreases-loop-p

@@ -1,6 +1,5 @@
 -- The first k entries are v.
 use Rattle.matching_alone.proofs.Filling.{row_none, row_more, row_less}
-use Prim.Native.Nat.{◌-◌}
 use mathlib.Core.Path.{refl}
 use native.Mathlib.Omega.{arith}
 use Rattle.matching_alone.proofs.fill_same.Goals as goal

@@ -3,7 +3,6 @@ use Rattle.matching_contents.proofs.Lists.{counted_more, counted_last, counted_m
 use mathlib.Core.Path.{ap}
 use mathlib.Core.Bool.{not}
 use native.Mathlib.Omega.{arith}
-use Prim.Native.Nat.{◌-◌}
 use Rattle.matching_contents.proofs.attributes.Goals as goal
 
 pub loop-x-init : goal.loop-x-init

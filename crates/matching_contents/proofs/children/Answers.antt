@@ -1,6 +1,5 @@
 -- The invariant: the first n words are the rows of e's children that stand before row r, and the words after them are
 -- as they were.
-use Prim.Native.Nat.{◌-◌}
 use mathlib.Core.Path.{◌≡◌, refl}
 use native.Mathlib.Omega.{arith}
 use Rattle.tables.proofs.Numbers.{one_or_none}

@@ -7,7 +7,8 @@ use Rattle.matching_contents.specs.Contents.{Begins}
 use Rattle.matching_contents.proofs.children.Given as goal
 
 abbrev pub invariant-loop-r : goal.invariant-loop-r
-invariant-loop-r l = (l.n ≤ l.r) × (l.r ≤ l.nodes) × (l.e < l.r) × Begins l.initial.rows l.rows (rows_where (is_child l.instance l.e) l.r) l.n
+invariant-loop-r l = (l.n ≤ l.r) × (l.r ≤ l.nodes) × (l.e < l.r)
+    × Begins l.initial.rows l.rows (rows_where (is_child l.instance l.e) l.r) l.n
 
 abbrev pub decreases-loop-r : goal.decreases-loop-r
 decreases-loop-r l = l.nodes - l.r

@@ -3,7 +3,6 @@ use lib.Dec.{eqb}
 use Rattle.sets.proofs.Collecting.{collects_none, collects_more}
 use native.Mathlib.Omega.{arith}
 use mathlib.Core.Path.{◌≡◌}
-use Prim.Native.Nat.{◌-◌}
 use Rattle.matching_contents.proofs.of_kind.Goals as goal
 
 pub loop-k-init : goal.loop-k-init

@@ -3,7 +3,6 @@ use Rattle.matching_contents.proofs.Lists.{itemized_none, itemized_more}
 use Rattle.matching_contents.specs.Contents.{item_word}
 use native.Mathlib.Omega.{arith}
 use mathlib.Core.Path.{◌≡◌, ◌∙◌, ap}
-use Prim.Native.Nat.{◌-◌}
 use Rattle.matching_contents.proofs.to_items.Goals as goal
 
 pub loop-k-init : goal.loop-k-init

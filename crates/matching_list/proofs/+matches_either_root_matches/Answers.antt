@@ -64,4 +64,5 @@ pub root_matches-returns-in_default : goal.root_matches-returns-in_default
 root_matches-returns-in_default t c =
     tells_nothing c.args.schema.now
     c.args.pairs.now c.args.p
-    (λ e. c.in_default.in_default-own.rest.0.1 (c.kind-kind.ensures ∙ e)) (λ e. c.in_default.in_default-own.rest.1 (c.kind-kind.ensures ∙ e))
+    (λ e. c.in_default.in_default-own.rest.0.1 (c.kind-kind.ensures ∙ e))
+    (λ e. c.in_default.in_default-own.rest.1 (c.kind-kind.ensures ∙ e))

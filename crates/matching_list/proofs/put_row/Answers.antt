@@ -1,5 +1,4 @@
 -- The marked ones among the first k definitions are put.
-use Prim.Native.Nat.{◌-◌}
 use Rattle.matching_list.proofs.Putting.{put_as, put_none, put_length, without_row, row_more}
 use Rattle.matching_list.specs.Listing.{row_pairs}
 use mathlib.Core.Path.{◌≡◌, sym, ap}

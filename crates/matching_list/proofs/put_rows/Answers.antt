@@ -1,5 +1,4 @@
 -- The marked pairs of the rows before e are put.
-use Prim.Native.Nat.{◌-◌}
 use Rattle.matching_list.proofs.Putting.{put_as, put_none, put_length, no_rows, rows_more}
 use Rattle.matching_list.specs.Listing.{marked_pairs}
 use mathlib.Core.Path.{◌≡◌, sym, ap}

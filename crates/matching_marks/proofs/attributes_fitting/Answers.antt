@@ -1,5 +1,4 @@
 -- The invariant: the set has the attributes before x whose values fit.
-use Prim.Native.Nat.{◌-◌}
 use Rattle.sets.proofs.Collecting.{collects_none, collects_more}
 use mathlib.Core.Path.{◌≡◌}
 use native.Mathlib.Omega.{arith}

@@ -1,7 +1,5 @@
 -- The invariant: the set has the attributes before x that are named.
-use Prim.Native.Nat.{◌-◌}
 use Rattle.sets.proofs.Collecting.{collects_none, collects_more}
-use Rattle.matching_marks.specs.Tests.{attribute_named}
 use mathlib.Core.Path.{◌≡◌}
 use native.Mathlib.Omega.{arith}
 use Rattle.matching_marks.proofs.attributes_named.Goals as goal

@@ -1,5 +1,4 @@
 -- The invariant: the set has the elements before k that are named.
-use Prim.Native.Nat.{◌-◌}
 use Rattle.sets.proofs.Collecting.{collects_none, collects_more}
 use lib.ListN.{length}
 use mathlib.Core.Bool.{not, ◌&&◌}

@@ -1,11 +1,11 @@
 -- Each arm of the match gives its kind; what is left takes by its operands.
 use Rattle.tables.specs.Tables.{tables_of}
 use Rattle.matching_marks.proofs.Reaching.{taken_strings, taken_ref, taken_other}
-use mathlib.Core.Logic.{⊎_elim}
 use mathlib.Core.Path.{sym, ◌∙◌}
 use native.Mathlib.Omega.{arith}
 use Rattle.matching_marks.proofs.taken_word.Goals as goal
-use Rattle.matching_marks.proofs.taken_word.Goals.{in_default-via-then-this-lt3, in_default-via-else-this-lt3+else-this-lt7}
+use Rattle.matching_marks.proofs.taken_word.Goals.{in_default-via-then-this-lt3}
+use Rattle.matching_marks.proofs.taken_word.Goals.{in_default-via-else-this-lt3+else-this-lt7}
 
 pub returns-in-8 : goal.returns-in-8
 returns-in-8 c =

@@ -5,7 +5,8 @@ use borrow.Author.Tests.{eq-eqb, ne_eqb}
 use Rattle.matching_pairs.proofs.pair_node.Goals as goal
 
 pub returns-then-kind-ne-ELEMENT : goal.returns-then-kind-ne-ELEMENT
-returns-then-kind-ne-ELEMENT c = λ T f. filling_past (ne_eqb _ 1 (λ z. c.if-kind-ne-ELEMENT.true (c.kind.ensures ∙ z))) f
+returns-then-kind-ne-ELEMENT c =
+    λ T f. filling_past (ne_eqb _ 1 (λ z. c.if-kind-ne-ELEMENT.true (c.kind.ensures ∙ z))) f
 
 pub pair_element-requires : goal.pair_element-requires
 pair_element-requires c =

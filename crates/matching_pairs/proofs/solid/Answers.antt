@@ -4,7 +4,6 @@ use lib.Dec.{eqb}
 use native.Mathlib.Omega.{arith}
 use mathlib.Core.Path.{◌≡◌}
 use mathlib.Core.Bool.{not, ◌&&◌}
-use Prim.Native.Nat.{◌-◌}
 use Rattle.matching_pairs.proofs.solid.Goals as goal
 
 pub loop-k-init : goal.loop-k-init

@@ -1,6 +1,5 @@
 -- The invariant: what has been read of the text, for each tree that the row shows. The measure: what is left of the
 -- text.
-use Prim.Native.Nat.{◌-◌}
 use mathlib.Core.Path.{refl, sym, ◌∙◌}
 use native.Mathlib.Omega.{arith}
 use Rattle.tables.specs.Tables.{string_table}

@@ -14,4 +14,5 @@ pub shape_of-w : goal.shape_of-w
 shape_of-w c = c.loop-i.invariant.rest.size
 
 pub returns : goal.returns
-returns c = record { is = written c.loop-i.invariant c.loop-i-test.false (λ k j r. absurd r); rest = c.loop-i.invariant.rest }
+returns c =
+    record { is = written c.loop-i.invariant c.loop-i-test.false (λ k j r. absurd r); rest = c.loop-i.invariant.rest }

@@ -21,4 +21,7 @@ pub shape_of-w : goal.shape_of-w
 shape_of-w c = c.loop-i.invariant.0.rest.size
 
 pub returns : goal.returns
-returns c = record { is = written c.loop-i.invariant.0 c.loop-i-test.false (then_low _ c.args.w.now); rest = c.loop-i.invariant.0.rest }
+returns c = record {
+  is = written c.loop-i.invariant.0 c.loop-i-test.false (then_low _ c.args.w.now);
+  rest = c.loop-i.invariant.0.rest;
+}

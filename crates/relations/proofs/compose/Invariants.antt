@@ -8,7 +8,8 @@ use Rattle.relations.specs.Words.{WordsRelate, front, next}
 use Rattle.relations.proofs.compose.Given as goal
 
 abbrev pub invariant-loop-i : goal.invariant-loop-i
-invariant-loop-i l = WrittenWords l.m (Then (WordsRelate (front l.m l.initial.w)) (WordsRelate (next l.m l.initial.w))) l.initial.w l.w l.i × (l.end ≡ positions + l.m)
+invariant-loop-i l = WrittenWords l.m (Then (WordsRelate (front l.m l.initial.w))
+    (WordsRelate (next l.m l.initial.w))) l.initial.w l.w l.i × (l.end ≡ positions + l.m)
 
 abbrev pub decreases-loop-i : goal.decreases-loop-i
 decreases-loop-i l = l.i

@@ -17,4 +17,5 @@ pub shape_of-w : goal.shape_of-w
 shape_of-w c = c.loop-i.invariant.0.rest.size
 
 pub returns : goal.returns
-returns c = record { is = written c.loop-i.invariant.0 c.loop-i-test.false (gap_low _ _); rest = c.loop-i.invariant.0.rest }
+returns c =
+    record { is = written c.loop-i.invariant.0 c.loop-i-test.false (gap_low _ _); rest = c.loop-i.invariant.0.rest }

@@ -18,4 +18,7 @@ pub shape_of-w : goal.shape_of-w
 shape_of-w c = c.loop-i.invariant.rest.size
 
 pub returns : goal.returns
-returns c = record { is = written c.loop-i.invariant c.loop-i-test.false (and_low _ c.args.w.now); rest = c.loop-i.invariant.rest }
+returns c = record {
+  is = written c.loop-i.invariant c.loop-i-test.false (and_low _ c.args.w.now);
+  rest = c.loop-i.invariant.rest;
+}

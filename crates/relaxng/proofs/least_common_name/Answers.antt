@@ -31,7 +31,8 @@ returns-then-not-is_class_row-2 c =
     let a = c.args in
     record {
       refusal = schema_passed c.in-Passed.is c.schema_verdict-verdict.ensures
-          (no_second a.schema.now a.first a.second (sym c.is_class_row.ensures ∙ c.if-not-is_class_row.false) (sym c.is_class_row-2.ensures ∙ c.if-not-is_class_row-2.true));
+          (no_second a.schema.now a.first a.second (sym c.is_class_row.ensures ∙ c.if-not-is_class_row.false)
+          (sym c.is_class_row-2.ensures ∙ c.if-not-is_class_row-2.true));
       answer = λ q. absurd (omega arith);
     }
 

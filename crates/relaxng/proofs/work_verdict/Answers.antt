@@ -6,7 +6,10 @@ use Rattle.relaxng.proofs.Matched.{tables_pass, work_refused, work_judged}
 use Rattle.relaxng.proofs.work_verdict.Goals as goal
 
 pub returns-in_default : goal.returns-in_default
-returns-in_default c = record { work_refusal = work_refused _ c.in_default.is c.instance_verdict-passed.ensures; cleared = c.zero_u8.ensures }
+returns-in_default c = record {
+  work_refusal = work_refused _ c.in_default.is c.instance_verdict-passed.ensures;
+  cleared = c.zero_u8.ensures;
+}
 
 pub check_work-requires : goal.check_work-requires
 check_work-requires c =

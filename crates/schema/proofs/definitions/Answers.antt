@@ -1,5 +1,4 @@
 -- The invariant: the first n words are the definitions among the rows before d, and the others are as they were.
-use Prim.Native.Nat.{◌-◌}
 use mathlib.Core.Path.{◌≡◌, refl, ◌∙◌}
 use native.Mathlib.Omega.{arith}
 use Rattle.schema.specs.Rows.{rows_of}

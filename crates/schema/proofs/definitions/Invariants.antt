@@ -6,7 +6,8 @@ use Rattle.schema.specs.Definitions.{DefinitionsBefore}
 use Rattle.schema.proofs.definitions.Given as goal
 
 abbrev pub invariant-loop-d : goal.invariant-loop-d
-invariant-loop-d l = (l.d ≤ l.all) × (length l.rows ≡ length l.initial.rows) × DefinitionsBefore l.schema l.rows l.n l.d × (drop l.n l.rows ≡ drop l.n l.initial.rows)
+invariant-loop-d l = (l.d ≤ l.all) × (length l.rows ≡ length l.initial.rows) × DefinitionsBefore l.schema l.rows l.n l.d
+    × (drop l.n l.rows ≡ drop l.n l.initial.rows)
 
 abbrev pub decreases-loop-d : goal.decreases-loop-d
 decreases-loop-d l = l.all - l.d

@@ -13,7 +13,8 @@ pub returns-then-x-eq-NO_ROW : goal.returns-then-x-eq-NO_ROW
 returns-then-x-eq-NO_ROW c = rw (c.in-PatternOrNone.is, eq-eqb _ _ c.if-x-eq-NO_ROW.true)
 
 pub returns-else-x-eq-NO_ROW : goal.returns-else-x-eq-NO_ROW
-returns-else-x-eq-NO_ROW c = c.pattern_below-else-x-eq-NO_ROW.ensures ∙ rw (c.in-PatternOrNone.is, ne_eqb _ _ c.if-x-eq-NO_ROW.false)
+returns-else-x-eq-NO_ROW c =
+    c.pattern_below-else-x-eq-NO_ROW.ensures ∙ rw (c.in-PatternOrNone.is, ne_eqb _ _ c.if-x-eq-NO_ROW.false)
 
 pub returns-in-AClass : goal.returns-in-AClass
 returns-in-AClass c = c.class_below.ensures ∙ rw c.in-AClass.is
@@ -22,7 +23,8 @@ pub returns-then-x-eq-NO_ROW-2 : goal.returns-then-x-eq-NO_ROW-2
 returns-then-x-eq-NO_ROW-2 c = rw (c.in-ClassOrNone.is, eq-eqb _ _ c.if-x-eq-NO_ROW-2.true)
 
 pub returns-else-x-eq-NO_ROW-2 : goal.returns-else-x-eq-NO_ROW-2
-returns-else-x-eq-NO_ROW-2 c = c.class_below-else-x-eq-NO_ROW-2.ensures ∙ rw (c.in-ClassOrNone.is, ne_eqb _ _ c.if-x-eq-NO_ROW-2.false)
+returns-else-x-eq-NO_ROW-2 c =
+    c.class_below-else-x-eq-NO_ROW-2.ensures ∙ rw (c.in-ClassOrNone.is, ne_eqb _ _ c.if-x-eq-NO_ROW-2.false)
 
 pub returns-in-Definition : goal.returns-in-Definition
 returns-in-Definition c = c.is_element.ensures ∙ rw (c.in-Definition.is, c.sort_at.ensures)

@@ -1,15 +1,14 @@
 -- Each arm of the match gives its kind, and the ranges their bounds; what is left is no kind.
-use mathlib.Core.Logic.{◌⊎◌, inl, ⊎_elim, inr}
+use mathlib.Core.Logic.{◌⊎◌, inl, inr}
 use mathlib.Core.Path.{◌≡◌, sym, ◌∙◌}
-use Prim.Native.Nat.{◌<◌, ◌≤◌}
-use native.Mathlib.Nat.{le_trans, le_of_suc-le-suc}
+use Prim.Native.Nat.{◌<◌}
 use native.Mathlib.Omega.{arith}
-use lib.Dec.{lit≤}
-use Rattle.schema.proofs.Shapes.{inside, past_one_or_more, shape_binary, shape_bad}
+use Rattle.schema.proofs.Shapes.{inside, shape_binary, shape_bad}
 use Rattle.schema.specs.Kinds as kind
 use Rattle.schema.specs.Rows.{shape_of}
 use Rattle.schema.proofs.shape_of.Goals as goal
-use Rattle.schema.proofs.shape_of.Goals.{in_default-via-then-kind-lt1, in_default-via-else-kind-lt1+else-kind-lt4+else-kind-lt13}
+use Rattle.schema.proofs.shape_of.Goals.{in_default-via-then-kind-lt1}
+use Rattle.schema.proofs.shape_of.Goals.{in_default-via-else-kind-lt1+else-kind-lt4+else-kind-lt13}
 
 pub returns-in-4 : goal.returns-in-4
 unfolding shape_of

@@ -69,7 +69,8 @@ pub smaller_mention-mention-requires : goal.smaller_mention-mention-requires
 smaller_mention-mention-requires t c = (omega arith, tt)
 
 pub smaller_mention-returns-then-row-parent : goal.smaller_mention-returns-then-row-parent
-smaller_mention-returns-then-row-parent t c = lowered_same (λ v m. (c.if-row-parent.true, m)) (λ v m. m.1) c.mention.ensures
+smaller_mention-returns-then-row-parent t c =
+    lowered_same (λ v m. (c.if-row-parent.true, m)) (λ v m. m.1) c.mention.ensures
 
 pub smaller_mention-returns-else-row-parent : goal.smaller_mention-returns-else-row-parent
 smaller_mention-returns-else-row-parent t c = lowered_none (λ v m. omega (arith, m.0))

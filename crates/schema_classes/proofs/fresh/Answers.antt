@@ -1,5 +1,4 @@
 -- The invariant: each number passed is mentioned. So the numbers passed are no more than the rows, and the search ends.
-use Prim.Native.Nat.{◌-◌}
 use native.Mathlib.Omega.{arith}
 use Rattle.schema_classes.proofs.Crowding.{count_low, least_small}
 use Rattle.schema_classes.proofs.Searching.{counting_start, counting_step, counting_done, next_here}
@@ -15,7 +14,8 @@ loop-number-preserved c =
     (arith, count_low c.requires _ _ c.args.part inv, least_small c.args.part)) c.loop-number-test.true)
 
 pub overflow_add-number : goal.overflow_add-number
-overflow_add-number c = omega (arith, count_low c.requires _ _ c.args.part (loop-number-preserved c), least_small c.args.part)
+overflow_add-number c =
+    omega (arith, count_low c.requires _ _ c.args.part (loop-number-preserved c), least_small c.args.part)
 
 pub loop-number-smaller : goal.loop-number-smaller
 loop-number-smaller c = omega (arith, count_low c.requires _ _ c.args.part (loop-number-preserved c))

@@ -1,5 +1,4 @@
 -- The invariant: the local numbers to try that are passed have no common name with the namespace.
-use Prim.Native.Nat.{◌-◌}
 use mathlib.Core.Path.{refl}
 use native.Mathlib.Omega.{arith}
 use Rattle.tables.proofs.Answers.{said_yes, said_no}

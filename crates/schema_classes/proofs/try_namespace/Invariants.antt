@@ -7,7 +7,8 @@ use Rattle.schema_classes.proofs.Searching.{Passed}
 use Rattle.schema_classes.proofs.try_namespace.Given as goal
 
 abbrev pub invariant-loop-local : goal.invariant-loop-local
-invariant-loop-local l = Passed (OneMentions l.schema l.first l.second (LocalBeside l.namespace)) 1 (Common l.schema l.first l.second l.namespace) l.local
+invariant-loop-local l = Passed (OneMentions l.schema l.first l.second (LocalBeside l.namespace)) 1
+    (Common l.schema l.first l.second l.namespace) l.local
 
 abbrev pub decreases-loop-local : goal.decreases-loop-local
 decreases-loop-local l = no_number - l.local

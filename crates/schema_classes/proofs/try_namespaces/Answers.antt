@@ -1,5 +1,4 @@
 -- The invariant: the namespaces to try that are passed have no common name.
-use Prim.Native.Nat.{◌-◌}
 use native.Mathlib.Omega.{arith}
 use Rattle.schema_classes.proofs.CommonNames.{namespace_stands}
 use Rattle.schema_classes.proofs.LeastNames.{found_least}

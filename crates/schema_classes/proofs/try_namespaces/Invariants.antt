@@ -7,7 +7,8 @@ use Rattle.schema_classes.proofs.Searching.{Passed}
 use Rattle.schema_classes.proofs.try_namespaces.Given as goal
 
 abbrev pub invariant-loop-namespace : goal.invariant-loop-namespace
-invariant-loop-namespace l = Passed (OneMentions l.schema l.first l.second Namespace) 0 (λ u. (local : ℕ) × Common l.schema l.first l.second u local) l.namespace
+invariant-loop-namespace l = Passed (OneMentions l.schema l.first l.second Namespace) 0
+    (λ u. (local : ℕ) × Common l.schema l.first l.second u local) l.namespace
 
 abbrev pub decreases-loop-namespace : goal.decreases-loop-namespace
 decreases-loop-namespace l = no_number - l.namespace

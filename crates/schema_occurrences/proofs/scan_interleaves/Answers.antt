@@ -1,5 +1,4 @@
 -- The invariant: no row passed is at fault, and the table of comparisons is right.
-use Prim.Native.Nat.{◌-◌}
 use mathlib.Core.Path.{refl, ◌∙◌}
 use native.Mathlib.Omega.{arith}
 use borrow.Author.Count.{below_none, below_more}
@@ -24,7 +23,8 @@ pub shape_of-compared-then-interleave_fault : goal.shape_of-compared-then-interl
 shape_of-compared-then-interleave_fault c = omega (arith, c.compared-1.given, c.loop-r.invariant.3)
 
 pub returns-then-interleave_fault : goal.returns-then-interleave_fault
-returns-then-interleave_fault c = (said_yes c.interleave_fault.ensures.0 c.if-interleave_fault.true, c.loop-r.invariant.1)
+returns-then-interleave_fault c =
+    (said_yes c.interleave_fault.ensures.0 c.if-interleave_fault.true, c.loop-r.invariant.1)
 
 pub overflow_add-r : goal.overflow_add-r
 overflow_add-r c = omega (arith, c.loop-r-test.true)

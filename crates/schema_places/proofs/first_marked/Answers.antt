@@ -1,5 +1,4 @@
 -- The invariant: no row before r is marked with a prohibited kind.
-use Prim.Native.Nat.{◌-◌}
 use mathlib.Core.Bool.{false≢true}
 use mathlib.Core.Path.{sym, ◌∙◌}
 use native.Mathlib.Omega.{arith}

@@ -9,7 +9,8 @@ use Rattle.schema_places.specs.Misplaced.{Misplaced}
 use Rattle.schema_places.proofs.mark_places.Given as goal
 
 abbrev pub invariant-loop-parent : goal.invariant-loop-parent
-invariant-loop-parent l = (length l.bad ≡ max_rows) × (l.parent ≤ suc max_rows) × MarksExactly (Swept l.schema (Misplaced l.schema) l.parent) l.bad
+invariant-loop-parent l = (length l.bad ≡ max_rows) × (l.parent ≤ suc max_rows)
+    × MarksExactly (Swept l.schema (Misplaced l.schema) l.parent) l.bad
 
 abbrev pub decreases-loop-parent : goal.decreases-loop-parent
 decreases-loop-parent l = l.parent

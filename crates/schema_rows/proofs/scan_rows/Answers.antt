@@ -1,7 +1,6 @@
 -- The invariant: no row before r is wrong; the count of a row is its number of uses.
 use mathlib.Core.Bool.{true≢false}
 use mathlib.Core.Path.{sym, ◌∙◌}
-use Prim.Native.Nat.{◌-◌}
 use native.Mathlib.Omega.{arith}
 use borrow.Author.Count.{below_none, below_more}
 use Rattle.tables.proofs.Answers.{finds_none}

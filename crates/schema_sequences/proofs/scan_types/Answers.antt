@@ -1,6 +1,6 @@
 -- The invariant: the types of the rows passed are known, and none of them clashes.
 use mathlib.Core.Path.{sym, ◌∙◌, ap}
-use Prim.Native.Nat.{ℕ, ◌-◌}
+use Prim.Native.Nat.{ℕ}
 use native.Mathlib.Omega.{arith}
 use lib.ListN.{length, length-replicate}
 use borrow.Author.Count.{below_none, below_more}

@@ -1,5 +1,4 @@
 -- The invariant: no end before k falls.
-use Prim.Native.Nat.{◌-◌}
 use native.Mathlib.Omega.{arith}
 use borrow.Author.Count.{below_none, below_more}
 use Rattle.tables.proofs.Answers.{finds_none}

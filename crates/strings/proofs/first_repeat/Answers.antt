@@ -1,5 +1,5 @@
 -- The invariant: no string before k repeats one before it, and the strings before k are linked by their hashes.
-use Prim.Native.Nat.{ℕ, ◌-◌}
+use Prim.Native.Nat.{ℕ}
 use mathlib.Core.Path.{refl}
 use native.Mathlib.Omega.{arith}
 use lib.ListN.{length-set, length-replicate}

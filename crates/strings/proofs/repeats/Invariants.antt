@@ -1,5 +1,4 @@
 -- The invariant: no string from m on has the text of string k, and the one before m has its hash.
-use Prim.Native.Nat.{◌-◌}
 use Rattle.tables.specs.Tables.{string_table}
 use Rattle.strings.proofs.Chains.{Walked}
 use Rattle.strings.proofs.repeats.Given as goal

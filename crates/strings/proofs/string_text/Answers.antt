@@ -17,7 +17,8 @@ returns-in_default c =
     record { in_table = λ right h. absurd (right _ fault); not_in_table = λ h. refl; rule_broken = λ p f. refl }
 
 pub returns-then-ends-at : goal.returns-then-ends-at
-returns-then-ends-at c = record { in_table = λ right h. absurd (omega arith); not_in_table = λ h. refl; rule_broken = λ p f. refl }
+returns-then-ends-at c =
+    record { in_table = λ right h. absurd (omega arith); not_in_table = λ h. refl; rule_broken = λ p f. refl }
 
 pub returns : goal.returns
 returns c =

@@ -1,6 +1,5 @@
 -- The invariant: the words passed are those of the run, read past its end as 0.
 use mathlib.Core.Path.{refl}
-use Prim.Native.Nat.{◌-◌}
 use native.Mathlib.Omega.{arith}
 use lib.ListN.{length-set}
 use Rattle.tables.proofs.Fill.{fill_none, fill_more, lay_done}

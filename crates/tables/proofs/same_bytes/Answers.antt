@@ -1,7 +1,7 @@
 -- The invariant: the bytes passed agree. Lists of one length that agree everywhere are equal.
 use mathlib.Core.List.{List}
 use mathlib.Core.Path.{ap}
-use Prim.Native.Nat.{ℕ, ◌-◌}
+use Prim.Native.Nat.{ℕ}
 use native.Mathlib.Omega.{arith}
 use lib.ListN.{length, get_or}
 use lib.Seq.{ext_get_or}

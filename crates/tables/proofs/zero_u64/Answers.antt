@@ -1,6 +1,5 @@
 -- The invariant: the words passed are 0.
 use mathlib.Core.Path.{refl}
-use Prim.Native.Nat.{◌-◌}
 use native.Mathlib.Omega.{arith}
 use lib.ListN.{length-set}
 use Rattle.tables.proofs.Fill.{fill_none, fill_more, zero_done}
