@@ -142,7 +142,8 @@ for place in sorted(CALLS):
     hold(place in called, f"{place} is there")
 
 # What is defined, with constructors and fields; what is bound before a `:`, after λ or `let`, and by a clause.
-DEFINED = re.compile(r"^ *(?:unfoldable )?(?:abbrev )?(?:pub )?(?:(?:record|data) (\S+)|(\S+)(?: \{[^}]*\})? :(?= |$))", re.M)
+MARKS = r"^ *(?:unfoldable )?(?:abbrev )?(?:pub )?"
+DEFINED = re.compile(rf"{MARKS}(?:(?:record|data) (\S+)|(\S+)(?: \{{[^}}]*\}})? :(?= |$))", re.M)
 TOP = re.compile(r"^ *(?:(?:unfoldable|abbrev) pub|pub (?:record|data)) ([A-Z]\w*)", re.M)
 TYPED = re.compile(r"[({]([^(){}:=]+) : ")
 BOUND = re.compile(r"λ ([^.]*)\.|\blet (\S+) ")
