@@ -24,7 +24,8 @@ The crates stand in the order of `crates.txt`. A definition is named with its fi
 the label of the edit that the prover refuses."""
 
 COMMENT = r"((?:^//[^\n]*\n)*)"
-FUNCTION = re.compile(COMMENT + r'(?:^#\[[^\n]*\n)*^pub (?:extern "C" )?fn (\w+)(.*?)^\{$', re.M | re.S)
+ATTRIBUTES = r"(?:^#\[(?:(?!\]$).)*\]\n)*"
+FUNCTION = re.compile(COMMENT + ATTRIBUTES + r'^pub (?:extern "C" )?fn (\w+)(.*?)^\{$', re.M | re.S)
 # The definitions that a file names: those of its own crate and of others. What std defines is not among them.
 USE = re.compile(r"^ghost use Rattle\.(?!std\b)(\w+)\.specs\.(\w+)(?: as (\w+)|\.\{(.*?)\});", re.M | re.S)
 # How a clause of a contract begins: its kind, and its name where it has one.
