@@ -1,5 +1,5 @@
 /*
- * Farshavan: a verified RELAX NG validator (ISO/IEC 19757-2). Link with libfarshavan.a (rt staticlib farshavan).
+ * Farshavan: a verified RELAX NG validator (ISO/IEC 19757-2). Link with libfarshavan.a (rt lib in crates/farshavan).
  * docs/FORMAT.md says what the tables hold, when each code is given and at which place.
  *
  * Answers. Every function returns one number. Its upper 32 bits are the code of a refusal, 0 where nothing is refused;

@@ -1,5 +1,5 @@
-// Runs the built program, target/bin/validator, and compares its whole output: on the jobs of tests/jobs with their
-// outputs, on every damage of one byte of the job of case P1, on random jobs and an article with the answers of
+// Runs the built program, crates/validator/out/validator, and compares its whole output: on the jobs of tests/jobs with
+// their outputs, on every damage of one byte of the job of case P1, on random jobs and an article with the answers of
 // the reference, on the jobs that look slow with these and with what is known by construction, and at the limits of the
 // input. Each run has the stack of a common shell and a time limit. Each single comparison is one test. The last line
 // printed is `N passed, M failed`. Run at the top of the repository.

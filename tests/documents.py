@@ -2,7 +2,7 @@
 """What documents, the header and the Rust crate say is what the files have. Each rule is tried at each place.
 
 A crate without a line in the map or in the times, a call without a section in docs/PROMISES.md or a line in the header,
-a file of definitions or proofs that a document names in vain, docs/FUNCTIONS.md other than the comments, contracts and
+a file, a definition or a law that a document names in vain, docs/FUNCTIONS.md other than the comments, contracts and
 edits make it, a citation of docs/FORMAT.md that names no section of it, a section that nothing cites, a citation of a
 document that is not here, a job in README.md that is not the one in tests/jobs, a number of the header or of the Rust
 crate that the proved code has otherwise.
@@ -30,10 +30,20 @@ for call in calls:
     hold(re.search(rf"^### `\w+::{call}`$", read("docs/PROMISES.md"), re.M), f"{call} in docs/PROMISES.md")
     hold(re.search(rf"^uint64_t farshavan_{call}\(", read("include/farshavan.h"), re.M), f"{call} in the header")
 
-# What a document names stands where it says.
+# What a document names stands where it says: a file, and the definitions and laws that it says are of a file or folder.
+NAME = r"`[\w'-]+`"
+PLACE = r"`(?:crates/)?(\w+/(?:specs|proofs)(?:/\w+)?)(?:\.antt)?`"
+OF_PLACE = re.compile(rf"({NAME}(?:(?:,|,? and) {NAME})*) (?:of {PLACE}|\({PLACE}\))")
 for path in sorted(glob.glob("docs/*.md")) + ["README.md"]:
-    for named in sorted(set(re.findall(r"`(?:crates/)?(\w+/(?:specs|proofs)/\w+)(?:\.antt)?`", read(path)))):
-        hold(os.path.exists(f"crates/{named}.antt"), f"{path} names {named}")
+    text = " ".join(read(path).split())
+    for named in sorted(set(re.findall(PLACE, text))):
+        hold(os.path.exists(f"crates/{named}") or os.path.exists(f"crates/{named}.antt"), f"{path} names {named}")
+    for names, *places in sorted(set(OF_PLACE.findall(text))):
+        place = f"crates/{''.join(places)}"
+        files = glob.glob(f"{place}/*.antt") if os.path.isdir(place) else glob.glob(f"{place}.antt")
+        words = {word for file in files for word in re.findall(r"[^\s(){}.,;:]+", re.sub("--.*", "", read(file)))}
+        for name in re.findall(r"`([^`]*)`", names):
+            hold(name in words, f"{path} names {name} of {place}")
 hold(read("docs/FUNCTIONS.md") == functions.document(), "docs/FUNCTIONS.md: run tools/functions.py")
 
 # A citation stands on one line: the name of the page, a comma, and the section in quotes.

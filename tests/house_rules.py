@@ -19,27 +19,34 @@ sys.path.insert(0, os.path.join(os.path.dirname(os.path.abspath(__file__)), "sup
 from tally import end, hold, read
 import functions
 
-lists = dict(line.split(":") for line in read("crates.txt").splitlines() if line.strip() and not line.startswith("#"))
+LISTED = re.compile(r"^(\w+)(?: staticlib)?:(.*)$", re.M)
+lists = {crate: below.split() for crate, below in LISTED.findall(read("crates.txt"))}
 crates = list(lists)
+hold(crates and crates == functions.crates(), "tools/functions.py reads the crates of crates.txt")
 
 listed = read("tests/parts.txt").split()
 present = {os.path.basename(p) for end in ["c", "py", "rs"] for p in glob.glob(f"tests/*.{end}")}
 for name in sorted(present | set(listed)):
     hold(name in present and listed.count(name) == 1, f"tests/parts.txt and the file tests/{name}")
 
-KIT = ["io", "os", "libc", "bytes", "check"]
+
+def definitions_and_proofs(crate="*"):
+    """The files of specs/ and proofs/; what rt keeps in out/ is none of them."""
+    found = [glob.glob(f"crates/{crate}/{part}/**/*.antt", recursive=True) for part in ["specs", "proofs"]]
+    return sorted(path for paths in found for path in paths)
 
 
 def named_by(crate):
-    """The crates that the files of a crate name."""
-    files = glob.glob(f"crates/{crate}/**/*.antt", recursive=True) + glob.glob(f"crates/{crate}/src/*.rt")
+    """The crates of the repository that the files of a crate name, and those of its line that the kit has."""
+    files = definitions_and_proofs(crate) + glob.glob(f"crates/{crate}/src/*.rt")
     text = "\n".join(re.sub(r"(--|//).*", "", read(path)) for path in files)
-    return {c for c in crates + KIT if c != crate and re.search(rf"Rattle·{c}[.·]|(?<![\w:.]){c}::", text)}
+    others = set(crates + lists[crate]) - {crate}
+    return {c for c in others if re.search(rf"(?<![\w.])Rattle\.{c}\.|(?<![\w:.]){c}::", text)}
 
 
 for crate in crates:
     named = named_by(crate)
-    hold(set(lists[crate].split()) == named, f"crates.txt: {crate} depends on {' '.join(sorted(named))} and no other")
+    hold(set(lists[crate]) == named, f"crates.txt: {crate} depends on {' '.join(sorted(named))} and no other")
 
 # What a user calls: its promise holds for every input.
 CALLS = {
@@ -56,9 +63,10 @@ CALLS = {
 called = set()
 
 # Names of the library, which no definition and no parameter gives another meaning.
-OPERATORS = "_≡_ _<_ _≤_ _≢_ _++_ _&&_ _||_"
-FUNCTIONS = "length take drop getD set replicate not cond map"
-LIBRARY = set(f"{OPERATORS} {FUNCTIONS} true false none some List Bool Option ℕ".split())
+OPERATORS = "◌≡◌ ◌<◌ ◌≤◌ ◌≢◌ ◌==◌ ◌++◌ ◌&&◌ ◌||◌"
+FUNCTIONS = "length take drop get_or slice_index slice_index_or set replicate not cond map"
+CONSTRUCTORS = set("true false none some None Some".split())
+LIBRARY = CONSTRUCTORS | set(f"{OPERATORS} {FUNCTIONS} List Bool Option ℕ".split())
 
 # A kind of a schema row by its number: in an arm of a `match`, or in a comparison.
 KIND = r"(?:schema::kind\([^{}]*?\)|kind)"
@@ -101,12 +109,16 @@ def late_arrays(crate, body):
 
 
 # From `fn` to the `{` of the body stands the contract; a function ends at the first `}` in column 0 or of an impl.
-FUNCTION = re.compile(r"^( *)((?:pub )?(?:extern \"C\" )?)fn (\w+)(.*?)^\1\{$(.*?)^\1\}$", re.M | re.S)
+BEFORE = r"((?:[\w()\"]+ )*)"
+FUNCTION = re.compile(r"^( *)%sfn (\w+)((?:(?!^\1\}$).)*?)^\1\{$(.*?)^\1\}$" % BEFORE, re.M | re.S)
+# A path into proofs/, by an import or, as a tactic takes it, in Rust's form. What a tactic looks at is part of a proof.
+OF_PROOFS = re.compile(r"(?<![\w.])Rattle\.(?:%s)\.proofs\b|\bproofs::" % "|".join(crates))
+TACTIC = re.compile(r"^ *#!?\[tactic\(.*?\)\]$", re.M | re.S)
 for path in SOURCES:
     text = read(path)
     crate = path.split("/")[1]
     found = [m for m in FUNCTION.finditer(text) if m.group(3) != "main"]
-    names = [n for n in re.findall(r"^ *(?:pub )?(?:extern \"C\" )?fn (\w+)", text, re.M) if n != "main"]
+    names = [n for _, n in re.findall(rf"^ *{BEFORE}fn (\w+)", text, re.M) if n != "main"]
     hold(len(found) == len(names), f"{path}: every function is recognized")
     for m in found:
         name, contract, body = m.group(3), m.group(4), m.group(5)
@@ -123,15 +135,15 @@ for path in SOURCES:
             promise = contract[contract.find("ensures") :]
             hold("→" not in promise, f"{place} is public and promises without a premise")
     code = re.sub(r"//.*", "", text)
-    hold(".proofs." not in code, f"{path} cites no proof")
+    hold(not OF_PROOFS.search(TACTIC.sub("", code)), f"{path} cites no proof")
     if crate != "schema":
         hold(not numbered_kinds(code), f"{path} has kinds by their names: {numbered_kinds(code)}")
 for place in sorted(CALLS):
     hold(place in called, f"{place} is there")
 
-CONSTRUCTORS = {"true", "false", "none", "some"}
 # What is defined, with constructors and fields; what is bound before a `:`, after λ or `let`, and by a clause.
-DEFINED = re.compile(r"^ *(?:unfoldable )?(?:abbrev )?(?:pub )?(?:(?:record|data) (\S+)|(\S+) :(?= |$))", re.M)
+MARKS = r"^ *(?:unfoldable )?(?:abbrev )?(?:pub )?"
+DEFINED = re.compile(rf"{MARKS}(?:(?:record|data) (\S+)|(\S+)(?: \{{[^}}]*\}})? :(?= |$))", re.M)
 TOP = re.compile(r"^ *(?:(?:unfoldable|abbrev) pub|pub (?:record|data)) ([A-Z]\w*)", re.M)
 TYPED = re.compile(r"[({]([^(){}:=]+) : ")
 BOUND = re.compile(r"λ ([^.]*)\.|\blet (\S+) ")
@@ -150,13 +162,13 @@ def renamed(text):
 
 # What a capital letter begins is a relation or a type, and stands for one thing in all definitions.
 homes = {}
-for path in sorted(glob.glob("crates/**/*.antt", recursive=True)):
+for path in definitions_and_proofs():
     text = re.sub(r"--.*", "", read(path))
     hold(text.count("\n") <= 400, f"{path} has at most 400 lines")
-    hold(not re.search(r"(?<![\w·-])\?", text), f"{path} has no hole")
+    hold(not re.search(r"(?<![\w'-])\?|\{!", text), f"{path} has no hole")
     hold(not re.search(r"^\s*axiom\b|Prim\.Axiom", text, re.M), f"{path} has no axiom")
     if "/specs/" in path:
-        hold(".proofs." not in text, f"{path} cites no proof")
+        hold(not OF_PROOFS.search(text), f"{path} cites no proof")
         hold(not renamed(text), f"{path} gives no name of the library another meaning: {renamed(text)}")
         for name in TOP.findall(text):
             hold(homes.setdefault(name, path) == path, f"{name} stands for one thing: {homes[name]}, {path}")

@@ -22,7 +22,7 @@ sys.dont_write_bytecode = True
 sys.path.insert(0, os.path.join(os.path.dirname(os.path.abspath(__file__)), "support"))
 from tally import end, hold, same
 
-BUILT = ["target/bin/validator", "target/staticlib/libfarshavan.a"]
+BUILT = ["crates/validator/out/validator", "crates/farshavan/out/libfarshavan.a"]
 
 NAME = re.compile(r"^[0-9a-f]+ <(.*)>:$")
 LINE = re.compile(r"^ *([0-9a-f]+):\t(\S.*)$")

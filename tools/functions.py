@@ -24,9 +24,12 @@ The crates stand in the order of `crates.txt`. A definition is named with its fi
 the label of the edit that the prover refuses."""
 
 COMMENT = r"((?:^//[^\n]*\n)*)"
-FUNCTION = re.compile(COMMENT + r'(?:^#\[[^\n]*\n)*^pub (?:extern "C" )?fn (\w+)(.*?)^\{$', re.M | re.S)
-# The definitions that a file names: those of its own crate and of others.
-USE = re.compile(r"^ghost use Rattle·(\w+?)(?:·specs)?\.specs\.(\w+)(?: as (\w+)|\.\{(.*?)\});", re.M | re.S)
+ATTRIBUTES = r"(?:^#\[(?:(?!\]$).)*\]\n)*"
+FUNCTION = re.compile(COMMENT + ATTRIBUTES + r'^pub (?:extern "C" )?fn (\w+)(.*?)^\{$', re.M | re.S)
+# The definitions that a file names: those of its own crate and of others. What std defines is not among them.
+USE = re.compile(r"^ghost use Rattle\.(?!std\b)(\w+)\.specs\.(\w+)(?: as (\w+)|\.\{(.*?)\});", re.M | re.S)
+# How a clause of a contract begins: its kind, and its name where it has one.
+CLAUSE = re.compile(r"^ *(?:requires|ensures)(?: \w+)? \{", re.M)
 
 
 def read(*path):
@@ -35,7 +38,8 @@ def read(*path):
 
 
 def crates():
-    return re.findall(r"^(\w+):", read("crates.txt"), re.M)
+    """The crates of crates.txt in their order, the static library too."""
+    return re.findall(r"^(\w+)(?: staticlib)?:", read("crates.txt"), re.M)
 
 
 def words(comment):
@@ -45,10 +49,11 @@ def words(comment):
 def cited(text, signature):
     """The definitions that a contract names, by the files that they stand in; a parameter's name is the parameter."""
     parameters, contract = re.match(r"(.*?)(^    (?:requires|ensures).*)", signature, re.M | re.S).groups()
-    names = set(re.findall(r"[^\s(){}⌜⌝,.]+", contract)) - set(re.findall(r"(\w+): ", parameters))
+    contract = CLAUSE.sub("{", contract)
+    names = set(re.findall(r"[^\s(){},.]+", contract)) - set(re.findall(r"(\w+): ", parameters))
     found = {}
     for crate, file, short, listed in USE.findall(text):
-        here = re.findall(rf"\b{short}\.([\w-]+)", contract) if short else re.split(r"[\s,]+", listed)
+        here = re.findall(rf"\b{short}\.([\w'-]+)", contract) if short else re.split(r"[\s,]+", listed)
         here = [n for n in here if short or n in names]
         if here:
             found.setdefault(f"{crate}/specs/{file}", []).extend(here)

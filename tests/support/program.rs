@@ -7,7 +7,7 @@ use std::sync::mpsc::channel;
 use std::thread;
 use std::time::Duration;
 
-pub const PROGRAM: &str = "target/bin/validator";
+pub const PROGRAM: &str = "crates/validator/out/validator";
 const LIMIT: Duration = Duration::from_secs(2);
 
 fn start() -> Child {
