@@ -1,6 +1,7 @@
-"""Tries of wrong answers: `rt check` of a crate with edits in it, in a copy of the repository outside of it.
+"""Tries of wrong answers: what `rt check` says of a crate with edits in it, in a copy of the repository.
 
-A copy has the crate and those below it, with what the repository's own check of them has kept, which it does not change.
+A copy has the crate and those below it, and begins with what the repository's own checks have kept, which stays as it
+is. What was proved gets a second name there and no copy: rt puts another file in its place, and writes into none.
 """
 import os
 import re
@@ -10,72 +11,60 @@ import tempfile
 
 from tally import read
 
-PARTS = ["src", "specs", "proofs"]
-LINE = re.compile(r"^(\w+)([^:#\n]*):([^#\n]*)", re.M)
+LINES = {line.split()[0].rstrip(":"): line for line in re.findall(r"^\w[^#\n]*", read("crates.txt"), re.M)}
 
 
 def below(crate):
-    """The crates that a crate stands on, by their lines of crates.txt, and its own line as the last."""
-    lines = {m.group(1): m.group(0) for m in LINE.finditer(read("crates.txt"))}
-    found = {}
-
-    def add(name):
-        for other in lines[name].partition(":")[2].split():
-            if other in lines and other not in found:
-                add(other)
-        found[name] = lines[name]
-
-    add(crate)
-    return found
+    """The crates that a crate stands on, and it as the last."""
+    found = []
+    for name in LINES[crate].partition(":")[2].split():
+        found += [it for it in (below(name) if name in LINES else []) if it not in found]
+    return found + [crate]
 
 
 def link(one, other):
-    """Gives what was proved a second name: a check puts another file in its place, and writes into none."""
     try:
         os.link(one, other)
     except OSError:
         shutil.copy2(one, other)
 
 
-def copy(crate, room):
-    """Copies a crate and those below it to the folder `room`."""
-    lines = below(crate)
-    with open(f"{room}/crates.txt", "w", encoding="utf8") as f:
-        f.write("\n".join(lines.values()) + "\n")
-    if os.path.exists("HANDLES"):
-        shutil.copy("HANDLES", room)
-    for name in lines:
-        for part in PARTS:
-            if os.path.isdir(f"crates/{name}/{part}"):
-                shutil.copytree(f"crates/{name}/{part}", f"{room}/crates/{name}/{part}")
-        kept, copied = ("out/incremental", keep) if name == crate else ("out/rlib", link)
-        shutil.copytree(f"crates/{name}/{kept}", f"{room}/crates/{name}/{kept}", copy_function=copied)
-
-
 def keep(one, other):
-    """Copies a file of a crate's kept work: what says which files are in use is written into."""
     (link if one.endswith(".oantt") else shutil.copy2)(one, other)
 
 
+def copy(crate, room):
+    """Copies a crate and those below it to a folder."""
+    names = below(crate)
+    with open(f"{room}/crates.txt", "w", encoding="utf8") as f:
+        f.writelines(LINES[name] + "\n" for name in names)
+    if os.path.exists("HANDLES"):
+        shutil.copy2("HANDLES", room)
+    for name in names:
+        for part in ["src", "specs", "proofs"]:
+            if os.path.exists(f"crates/{name}/{part}"):
+                shutil.copytree(f"crates/{name}/{part}", f"{room}/crates/{name}/{part}")
+        kept, copier = ("out/incremental", keep) if name == crate else ("out/rlib", link)
+        shutil.copytree(f"crates/{name}/{kept}", f"{room}/crates/{name}/{kept}", copy_function=copier)
+
+
 def edit(folder, edits):
-    """Makes replacements in a crate, and tells which could not be made: each old text has to be there once."""
+    """Makes the replacements in a crate, and tells which cannot be made: an old text has to be there once."""
     for file, old, new in edits:
-        text = read(f"{folder}/{file}") if os.path.exists(f"{folder}/{file}") else ""
+        text = read(f"{folder}/{file}")
         if text.count(old) != 1 or old == new:
-            return f"{file} has {text.count(old)} times: {old}"
+            return f"not applied, {text.count(old)} times in {file}: {old}"
         with open(f"{folder}/{file}", "w", encoding="utf8") as f:
             f.write(text.replace(old, new))
     return None
 
 
-def tried(crate, edits, function=None):
-    """What a check of a crate with edits in it says: of a function and what it calls, or of the whole crate."""
-    with tempfile.TemporaryDirectory(prefix="farshavan-tries-") as room:
+def tried(crate, edits):
+    """What a check of a crate with these edits says, or why they could not be made."""
+    with tempfile.TemporaryDirectory(prefix="farshavan-try-") as room:
         copy(crate, room)
-        lost = edit(f"{room}/crates/{crate}", edits)
-        if lost:
-            return f"not applied: {lost}"
-        words = ["rt", "check", "--jobs", "1"] + (["--only", f"{crate}::{function}"] if function else [])
-        ran = subprocess.run(words, cwd=f"{room}/crates/{crate}", stdin=subprocess.DEVNULL, stdout=subprocess.PIPE,
-                             stderr=subprocess.STDOUT, text=True, errors="replace")
-        return ran.stdout
+        folder = f"{room}/crates/{crate}"
+        return edit(folder, edits) or subprocess.run(
+            ["rt", "check", "--jobs", "1"], cwd=folder, stdin=subprocess.DEVNULL, stdout=subprocess.PIPE,
+            stderr=subprocess.STDOUT, text=True, errors="replace",
+        ).stdout
