@@ -1,71 +1,112 @@
 #!/usr/bin/env python3
 """Each wrong answer of crates/*/must-fail/*.edit is refused, and for its own fact.
 
-`rt ci` tries an edit file as a whole: one refusal in it is enough. So the log of each file is read here. A file holds
-wrong answers for different functions, each with its `label:` and, after `refused:`, the function and the fact that is
-to fail. That fact must be among the prover's errors in the proof of this function, and the edit must stand in the
-function: what fails there rests on the function's own code and on the contracts of others, which are as they were, so
-that no other wrong answer of the file can be the reason. A wrong constant or definition stands alone in its file.
+`rt ci` tries an edit file as a whole: one refusal in it is enough. So each file is tried here once more, and what the
+prover says is read. A file holds wrong answers for different functions, each with its `label:` and, after `refused:`,
+the function and the fact that is to fail. That fact must be among the prover's errors in the proof of this function, or
+among the facts of it that the prover finds no proof of, and the edit must stand in the function: what fails there rests
+on the function's own code and on the contracts of others, which are as they were, so that no other wrong answer of the
+file can be the reason. A wrong constant or definition stands alone in its file.
 """
 import glob
 import os
 import re
+import subprocess
 import sys
+from concurrent.futures import ThreadPoolExecutor
 
 sys.dont_write_bytecode = True
 sys.path.insert(0, os.path.join(os.path.dirname(os.path.abspath(__file__)), "support"))
 from tally import end, hold, read
 from edits import answers
+from tries import tried
 
 FUNCTION = re.compile(r"^(?:pub )?(?:extern \"C\" )?fn (\w+).*?^\}$", re.M | re.S)
+# A fact fails for want of a name where a proof cites what the edit took away: that says nothing of the contract.
+UNNAMED = re.compile(r"was not admitted|is not in scope|has no (field )?`")
+
+
+def functions(crate, file):
+    """The functions of a file of a crate, each with the place of its text."""
+    return {m.group(1): (m.start(), m.end()) for m in FUNCTION.finditer(read(f"crates/{crate}/{file}"))}
 
 
 def functions_at(crate, edits):
     """The functions that the edits stand in; None for a constant or a definition, which is in none."""
     inside = set()
-    for file, old in edits:
-        text = read(f"crates/{crate}/{file}")
-        place = text.index(old)
-        inside.update({m.group(1) for m in FUNCTION.finditer(text) if m.start() <= place < m.end()} or {None})
+    for file, old, _ in edits:
+        place = read(f"crates/{crate}/{file}").find(old)
+        inside.update({name for name, (a, b) in functions(crate, file).items() if a <= place < b} or {None})
     return inside
 
 
 def proof_of(crate, function):
     """The folder with the proof of a function: functions that call each other have one, with the facts of each."""
-    cycles = [os.path.basename(p) for p in glob.glob(f"crates/{crate}/proofs/+*")]
-    return next((c for c in cycles if function in c.split("+")), function)
+    cycle = re.compile(r"^#\[cycle\((\w+)\)\]\n(?:#.*\n)*(?:pub )?fn %s\b" % function, re.M)
+    found = cycle.search(read(f"crates/{crate}/src/lib.rt"))
+    return f"+{found.group(1)}" if found else function
 
 
-def is_refused(log, crate, at, fact):
-    """An error at the fact itself, not one for want of something else that was not admitted."""
-    proof = proof_of(crate, at)
-    if proof != at and not fact.startswith(at.replace("_", "-") + "-"):
-        return False
-    place = at if at.endswith(".antt") else f"proofs/{proof}/Proof.antt"
-    errors = re.findall(r"^\S*/%s:\d+:\d+: error: `%s`: (.*)" % (re.escape(place), re.escape(fact)), log, re.M)
-    searched = re.findall(r"^fn %s::%s: no proof: .*does not close ([^;]*)" % (crate, re.escape(at)), log, re.M)
-    own = [e for e in errors if "was not admitted" not in e and "has no `Need" not in e]
-    return bool(own) or any(f"`{fact}`" in s for s in searched)
+def errors_in(log, place):
+    """The facts at which the prover refuses what stands in a file or a folder, but for those that it could not name."""
+    lines = re.findall(r"^(?:\./)?%s.*?:\d+:\d+: error: `([^`]*)`: (.*(?:\n  .*)?)" % re.escape(place), log, re.M)
+    return {fact for fact, what in lines if not UNNAMED.search(what)}
 
 
-for path in sorted(glob.glob("crates/*/must-fail/*.edit")):
-    crate, name = path.split("/")[1], os.path.basename(path)[: -len(".edit")]
-    log_path = f"target/must-fail/{crate}/{name}/.log"
-    log = read(log_path) if os.path.exists(log_path) else ""
-    hold(log, f"{path}: it was tried")
+def unproved_in(log, crate, function):
+    """The facts of a function for which the prover has found no proof."""
+    text = read(f"crates/{crate}/src/lib.rt")
+    first, last = (text.count("\n", 0, place) + 1 for place in functions(crate, "src/lib.rt")[function])
+    notes = re.findall(r"^note: src/lib\.rt:(\d+):\d+: it is not proved that .*\(`([^`]*)`\)", log, re.M)
+    found = {fact for line, fact in notes if first <= int(line) <= last}
+    for facts in re.findall(r"^fn %s::%s: no proof: .* did not prove ([^;\n]*)" % (crate, function), log, re.M):
+        found.update(re.findall(r"`([^`]*)`", facts))
+    return found
+
+
+def refused_at(log, crate, at):
+    """The facts at which a function, or a file of lemmas, is refused."""
+    if at.endswith(".antt"):
+        return errors_in(log, at)
+    return errors_in(log, f"proofs/{proof_of(crate, at)}/") | unproved_in(log, crate, at)
+
+
+def is_refused(log):
+    """The prover has read the edited crate and does not prove it."""
+    last = [line for line in log.splitlines() if not line.startswith("rt: ")][-1:]
+    read_all = not re.search(r"error\[|^(\./)?(src|specs)/\S+: error", log, re.M)
+    return last == ["logic=not-proved"] and read_all
+
+
+def hold_answers(path, log):
+    """Holds each wrong answer of a file to its fact."""
+    crate = path.split("/")[1]
+    hold(is_refused(log), f"{path}: it is applied, read and refused:\n{log[-2000:]}")
     found = answers(path)
     hold(all(a["label"] for a in found) and found, f"{path}: each wrong answer has a label")
-    functions = []
     for answer in found:
         place = f"{path}: {answer['label']}"
-        inside = functions_at(crate, answer["edits"])
+        at, fact, inside = answer["at"], answer["fact"], functions_at(crate, answer["edits"])
         if None in inside:
             hold(len(found) == 1, f"{place}: it stands in no function and not alone")
         else:
-            hold(inside == {answer["at"]}, f"{place}: it stands in {inside}")
-        functions.append(answer["at"])
-        at, fact = answer["at"], answer["fact"]
-        hold(is_refused(log, crate, at, fact), f"{place}: refused at {at} {fact}")
-    hold(len(functions) == len(set(functions)), f"{path}: two wrong answers for one function")
+            hold(inside == {at}, f"{place}: it stands in {inside}")
+        facts = refused_at(log, crate, at)
+        hold(fact in facts, f"{place}: refused at {at} {fact}, and not at {sorted(facts)}")
+    names = [a["at"] for a in found]
+    hold(len(names) == len(set(names)), f"{path}: two wrong answers for one function")
 
-end()
+
+def main():
+    # What a try begins with is what the checks of the crates as they are have kept.
+    checked = subprocess.run(["rt", "all", "check"], stdout=subprocess.PIPE, stderr=subprocess.STDOUT, text=True)
+    hold(checked.returncode == 0, f"the crates are proved:\n{checked.stdout[-2000:]}")
+    paths = sorted(glob.glob("crates/*/must-fail/*.edit"))
+    with ThreadPoolExecutor(len(os.sched_getaffinity(0))) as pool:
+        logs = pool.map(lambda path: tried(path.split("/")[1], [e for a in answers(path) for e in a["edits"]]), paths)
+        for path, log in zip(paths, logs):
+            hold_answers(path, log)
+    end()
+
+
+main()
