@@ -41,10 +41,11 @@ def functions_at(crate, edits):
 
 
 def proof_of(crate, function):
-    """The folder with the proof of a function: functions that call each other have one, with the facts of each."""
+    """The folder with the proof of a function: functions that call each other, or themselves, have one of the cycle."""
     cycle = re.compile(r"^#\[cycle\((\w+)\)\]\n(?:#.*\n)*(?:pub )?fn %s\b" % function, re.M)
     found = cycle.search(read(f"crates/{crate}/src/lib.rt"))
-    return f"+{found.group(1)}" if found else function
+    name = f"+{found.group(1) if found else function}"
+    return name if found or os.path.isdir(f"crates/{crate}/proofs/{name}") else function
 
 
 def errors_in(log, place):
