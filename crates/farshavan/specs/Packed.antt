@@ -129,12 +129,12 @@ pub record PackedText (bytes : Bor (List ℕ)) (ends : List ℕ) (k room : ℕ) 
   pub handed : Handed part.now (length part.now) room text r
 
 -- the tables are given where the counts fit
-pub record PackedRead (file : List ℕ) (room : Room) (countRoom : ℕ)
+pub record PackedRead (file : List ℕ) (room : Room) (count_room : ℕ)
     (bytes ends schema instance counts : List ℕ) (r : ℕ) : Type 0 where
   pub answer : JobRead
   pub promise : JobAnswer (read_job file) room answer
-  pub handed : Handed (read_counts answer) (packed_read answer) countRoom counts r
-  pub tables : OutputsHold (cond (fits_in countRoom (read_counts answer)) (given (read_job file) room) no_tables) room
+  pub handed : Handed (read_counts answer) (packed_read answer) count_room counts r
+  pub tables : OutputsHold (cond (fits_in count_room (read_counts answer)) (given (read_job file) room) no_tables) room
       bytes ends schema instance
 
 pub record PackedWrite (J : Tables) (room : ℕ) (file : List ℕ) (r : ℕ) : Type 0 where

@@ -13,7 +13,7 @@ use borrow.Author.Tests.{eq-eqb, ne_eqb, eqb-true}
 use borrow.Author.Count.{below_none, below_more}
 use Rattle.tables.specs.Answers.{Decides}
 use Rattle.tables.specs.Outputs.{zeros}
-use Rattle.tables.proofs.Fill.{get_d_zeros}
+use Rattle.tables.proofs.Fill.{get_or_zeros}
 use Rattle.instance.specs.Nodes.{element, attribute, text, no_parent, kind_of}
 use Rattle.instance.specs.Nodes.{parent_of, a_of, b_of, c_of, is_child, is_attribute}
 use Rattle.instance.specs.NodeRule.{max_nodes, fields_right, WrongNode, bad_fields, bad_parent}
@@ -59,7 +59,7 @@ last_new r c z = child_at r (omega arith) c z (λ x m n. absurd (omega arith))
 pub last_none : (t : List ℕ) {last : List ℕ} → last ≡ zeros max_nodes → LastChildren t last 0
 last_none t e = record {
   size = ap length e ∙ length-replicate {A = ℕ} max_nodes 0;
-  kinds = λ x h. no_child (ap (λ (l : List ℕ). get_or l x 0) e ∙ get_d_zeros max_nodes x) (below_none _);
+  kinds = λ x h. no_child (ap (λ (l : List ℕ). get_or l x 0) e ∙ get_or_zeros max_nodes x) (below_none _);
 }
 
 module _ {t last : List ℕ} {r : ℕ} (c : LastChildren t last r) where

@@ -11,8 +11,8 @@ use borrow.Author.Tests.{eqb-true, eqb-false, ltb-true, ltb-false}
 use Rattle.tables.specs.Answers.{Decides}
 use Rattle.tables.specs.Counting.{counted}
 use Rattle.tables.specs.Outputs.{zeros}
-use Rattle.tables.proofs.Counting.{length_counted, get_d_counted, low_everywhere}
-use Rattle.tables.proofs.Fill.{get_d_zeros}
+use Rattle.tables.proofs.Counting.{length_counted, get_or_counted, low_everywhere}
+use Rattle.tables.proofs.Fill.{get_or_zeros}
 use Rattle.tables.proofs.Numbers.{one_or_none}
 use Rattle.instance.specs.Nodes.{element, nodes_of, kind_of, is_child, is_attribute}
 use Rattle.instance.specs.NodeRule.{max_nodes}
@@ -28,7 +28,7 @@ pub rows_none : (belongs : ℕ → ℕ → Bool) {counts : List ℕ} → counts 
 unfolding how_many
 rows_none belongs e = record {
   size = ap length e ∙ length-replicate {A = ℕ} max_nodes 0;
-  count = λ r h. ap (λ (l : List ℕ). get_or l r 0) e ∙ get_d_zeros max_nodes r;
+  count = λ r h. ap (λ (l : List ℕ). get_or l r 0) e ∙ get_or_zeros max_nodes r;
 }
 
 module _ {belongs : ℕ → ℕ → Bool} {counts : List ℕ} {n : ℕ} (c : RowsCounted belongs counts n) where
@@ -43,7 +43,7 @@ module _ {belongs : ℕ → ℕ → Bool} {counts : List ℕ} {n : ℕ} (c : Row
   rows_more x wanted {after} q same = record {
     size = ap length q ∙ length_counted wanted x counts ∙ c.size;
     count = λ e h.
-        let one = ap (λ (l : List ℕ). get_or l e 0) q ∙ get_d_counted wanted x counts e (omega (arith, h, c.size)) in
+        let one = ap (λ (l : List ℕ). get_or l e 0) q ∙ get_or_counted wanted x counts e (omega (arith, h, c.size)) in
         rw (add-one n, how_many, ← same e, and_comm (eqb x e) wanted)
         (one ∙ ap (λ (m : ℕ). m + cond (wanted && eqb x e) 1 0) (c.count e h));
   }

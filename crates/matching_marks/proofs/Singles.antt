@@ -122,7 +122,7 @@ module _ (J : Tables) (e attributes : ℕ) (pass : SchemaPasses (schema_strings 
 
   pub single_none : kind_of s p ≢ kind.attribute
       → (kind.one_or_more ≤ kind_of s p → ¬ (kind_of s p < kind.group)) → Single p 0
-  single_none no_attribute no_Operand x h flat =
+  single_none no_attribute not_operand x h flat =
       (λ u. absurd (none_has x u), λ d. absurd (unreached (named L (NotMatch L) d y (eq-eqb y y refl))))
     where
       y : ℕ
@@ -136,4 +136,4 @@ module _ (J : Tables) (e attributes : ℕ) (pass : SchemaPasses (schema_strings 
       unreached (here i) = no_attribute (attribute_made L y made i).0
       unreached (there r o i) =
           flat (pattern_of s p) itself (operand_sharing o made
-          (let k = operand_kinds o made in let z = not_less (no_Operand k.0) in omega arith)) y (there r o i)
+          (let k = operand_kinds o made in let z = not_less (not_operand k.0) in omega arith)) y (there r o i)

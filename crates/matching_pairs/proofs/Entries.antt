@@ -13,7 +13,7 @@ use borrow.Author.Count.{below_more}
 use borrow.Author.Tests.{eq-eqb, eqb-true}
 use Rattle.tables.specs.Tables.{Tables}
 use Rattle.tables.specs.Outputs.{zeros}
-use Rattle.tables.proofs.Fill.{get_d_zeros}
+use Rattle.tables.proofs.Fill.{get_or_zeros}
 use Rattle.strings.specs.Strings.{at_front, instance_strings}
 use Rattle.strings.proofs.Table.{ends_of, few_strings}
 use Rattle.schema.specs.Rows.{rows_of}
@@ -72,7 +72,7 @@ module _ {J : Tables} {definitions before : List ℕ} {e : ℕ} where
       → n < length definitions → d ≡ get_or definitions n 0 → d < max_rows → e * max_rows + d < length now
       → (v ≡ 1) ↔ IsPair J e d → RowTold J definitions before now e n
       → RowTold J definitions before (set now (e * max_rows + d) v) e (n + 1)
-  row_more {now} {n} {d} {v} defs in_List is low l p r = record {
+  row_more {now} {n} {d} {v} defs listed is low l p r = record {
     others = record {
       size = length-set now (e * max_rows + d) v ∙ r.others.size;
       kept = λ x c f m.
@@ -81,7 +81,7 @@ module _ {J : Tables} {definitions before : List ℕ} {e : ℕ} where
     told =
         below_more (λ (j : ℕ). (pair_entry (set now (e * max_rows + d) v) e (get_or definitions j 0) ≡ 1)
         ↔ IsPair J e (get_or definitions j 0)) n
-        (λ j m. let i = defs.rising j n m in_List in rw (get_or-set_other now (e * max_rows + d)
+        (λ j m. let i = defs.rising j n m listed in rw (get_or-set_other now (e * max_rows + d)
         (e * max_rows + get_or definitions j 0) v 0 (λ z. omega arith)) (r.told j m))
         (rw (← is) (rw (get_or-set_same now (e * max_rows + d) v 0 l) p));
     rest =
@@ -113,7 +113,7 @@ module _ {J : Tables} {alone nothing blank pairs : List ℕ} where
     pass = pass;
     filled = filled;
     from = record { entries = λ e d h l m. absurd (omega arith) };
-    empty = λ e d h l. ap (λ (w : List ℕ). pair_entry w e d) z ∙ get_d_zeros n (e * max_rows + d);
+    empty = λ e d h l. ap (λ (w : List ℕ). pair_entry w e d) z ∙ get_or_zeros n (e * max_rows + d);
   }
 
   -- one row more: that of an element, and another

@@ -9,7 +9,7 @@ use lib.ListN.{length, set, length-replicate}
 use lib.Seq.{get_or-set_same, get_or-set_other}
 use lib.Dec.{eqb}
 use Rattle.tables.specs.Outputs.{zeros}
-use Rattle.tables.proofs.Fill.{get_d_zeros}
+use Rattle.tables.proofs.Fill.{get_or_zeros}
 use Rattle.matching_rules.specs.Items.{Lookups}
 use Rattle.matching_tokens.specs.Marked.{Tree, empty, leaf, one_or_more, choice, group, row_of, Shows}
 use Rattle.matching_tokens.specs.Marked.{shows_empty, shows_leaf, shows_one_or_more, shows_choice}
@@ -104,7 +104,7 @@ module _ (n : ℕ) where
   slot_none : (p : Tree) → row_of p < n → Slot (zeros n) p []
   slot_none p h = record {
     room = rw (length-replicate {A = ℕ} n 0) h;
-    told = ap (λ (x : ℕ). eqb x 1) (get_d_zeros n (row_of p)) ∙ sym (done_none p);
+    told = ap (λ (x : ℕ). eqb x 1) (get_or_zeros n (row_of p)) ∙ sym (done_none p);
   }
 
   -- and a table of zeros says so

@@ -12,14 +12,14 @@ use lib.ListN.{length, get_or, set}
 use lib.Seq.{get_or-set_same, get_or-set_other}
 use borrow.Author.Tests.{eqb-true, eqb-false}
 use Rattle.tables.specs.Outputs.{zeros}
-use Rattle.tables.proofs.Fill.{get_d_zeros}
+use Rattle.tables.proofs.Fill.{get_or_zeros}
 use Rattle.sets.specs.Bits.{bit}
 use Rattle.sets.proofs.Bits.{bit_shl}
 use Rattle.sets.proofs.Members.{none_has, or_has}
 use Rattle.schema_occurrences.specs.Occurrences.{Shared, Compared}
 
 pub compared_none : (s : List ℕ) (n : ℕ) → Compared s (zeros n)
-compared_none s n = record { apart = λ c d h e. absurd (none_has (d % 64) (rw (get_d_zeros n (c * 8 + d / 64)) at e)) }
+compared_none s n = record { apart = λ c d h e. absurd (none_has (d % 64) (rw (get_or_zeros n (c * 8 + d / 64)) at e)) }
 
 module _ {s m : List ℕ} {c d : ℕ} (known : Compared s m) (low : d < 512)
     (long : c * 8 + d / 64 < length m) (none : ¬ Shared s c d) where

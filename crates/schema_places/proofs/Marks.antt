@@ -11,7 +11,7 @@ use lib.Seq.{ext_get_or}
 use Rattle.tables.specs.Answers.{Decides}
 use Rattle.tables.specs.Outputs.{zeros}
 use Rattle.tables.proofs.Answers.{said_yes}
-use Rattle.tables.proofs.Fill.{get_d_zeros}
+use Rattle.tables.proofs.Fill.{get_or_zeros}
 use Rattle.schema.specs.Kinds.{no_row}
 use Rattle.schema.specs.Marks.{Marked, children_marked, Adds}
 use Rattle.schema.specs.Rows.{child_a, child_b}
@@ -23,9 +23,9 @@ use Rattle.schema_places.specs.Marks.{MarksExactly, ChildThat}
 module _ {P : ℕ → Type 0} where
   pub marks_none : (n : ℕ) → ((r : ℕ) → ¬ P r) → MarksExactly P (zeros n)
   marks_none n no_row = record {
-    sound = λ r m. absurd (omega (arith, get_d_zeros n r));
+    sound = λ r m. absurd (omega (arith, get_or_zeros n r));
     complete = λ r p. absurd (no_row r p);
-    rest = λ r m. get_d_zeros n r;
+    rest = λ r m. get_or_zeros n r;
   }
 
   -- every word is fixed by the rows that are marked

@@ -9,8 +9,8 @@ use lib.Dec.{eqb}
 use lib.ListN.{length, get_or, length-replicate}
 use Rattle.tables.specs.Counting.{counted}
 use Rattle.tables.specs.Outputs.{zeros}
-use Rattle.tables.proofs.Counting.{length_counted, get_d_counted, low_everywhere}
-use Rattle.tables.proofs.Fill.{get_d_zeros}
+use Rattle.tables.proofs.Counting.{length_counted, get_or_counted, low_everywhere}
+use Rattle.tables.proofs.Fill.{get_or_zeros}
 use Rattle.tables.proofs.Numbers.{one_or_none}
 use Rattle.schema.specs.Rows.{child_a, child_b}
 use Rattle.schema.specs.RowRule.{max_rows, is_row, uses_before}
@@ -28,7 +28,7 @@ pub uses_none : (s : List ℕ) {counts : List ℕ} → counts ≡ zeros max_rows
 unfolding uses_before
 uses_none s e = record {
   size = ap length e ∙ length-replicate {A = ℕ} max_rows 0;
-  uses = λ r h. ap (λ (l : List ℕ). get_or l r 0) e ∙ get_d_zeros max_rows r;
+  uses = λ r h. ap (λ (l : List ℕ). get_or l r 0) e ∙ get_or_zeros max_rows r;
 }
 
 module _ {s counts : List ℕ} {p : ℕ} (c : UsesCounted s counts p) where
@@ -45,8 +45,8 @@ module _ {s counts : List ℕ} {p : ℕ} (c : UsesCounted s counts p) where
       record {
         size = length_counted true b (counted true a counts) ∙ l;
         uses = λ r h.
-            let one = get_d_counted true a counts r (omega (arith, h, c.size)) in
-            let two = get_d_counted true b (counted true a counts) r (omega (arith, h, l)) in
+            let one = get_or_counted true a counts r (omega (arith, h, c.size)) in
+            let two = get_or_counted true b (counted true a counts) r (omega (arith, h, l)) in
             rw (add-one p, uses_before, ← e, ← f)
             (two ∙ ap (λ (n : ℕ). n + is_row r b) (one ∙ ap (λ (n : ℕ). n + is_row r a) (c.uses r h)));
       }

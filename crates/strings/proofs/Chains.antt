@@ -9,7 +9,7 @@ use borrow.Author.Count.{below_more}
 use lib.ListN.{length, get_or, set, length-set, length-replicate}
 use lib.Seq.{get_or-set_same, get_or-set_other}
 use Rattle.tables.specs.Outputs.{zeros}
-use Rattle.tables.proofs.Fill.{get_d_zeros}
+use Rattle.tables.proofs.Fill.{get_or_zeros}
 use Rattle.tables.specs.Tables.{StringTable}
 use Rattle.strings.specs.Strings.{text_of, max_strings}
 use Rattle.strings.specs.Chains.{hash_of, hash_at, LastOf, Linked, Lasts}
@@ -51,7 +51,7 @@ module _ {T : StringTable} where
   pub lasts_none : Lasts T (zeros 512) 0
   lasts_none = record {
     size = length-replicate {A = ℕ} 512 0;
-    each = λ h l. rw (get_d_zeros 512 h)
+    each = λ h l. rw (get_or_zeros 512 h)
         (record { low = omega arith; same = λ j e. absurd (omega arith); later = λ i b m. absurd (omega arith) });
   }
 

@@ -17,14 +17,14 @@ length_counted true x counts = length-set counts x _
 length_counted false x counts = refl
 
 -- one more at place x where it is wanted, and the same as before at every other place
-pub get_d_counted : (wanted : Bool) (x : ℕ) (counts : List ℕ) (r : ℕ) → r < length counts
+pub get_or_counted : (wanted : Bool) (x : ℕ) (counts : List ℕ) (r : ℕ) → r < length counts
     → get_or (counted wanted x counts) r 0 ≡ get_or counts r 0 + cond (wanted && eqb x r) 1 0
-get_d_counted true x counts r h = go (ℕ_discrete r x)
+get_or_counted true x counts r h = go (ℕ_discrete r x)
   where
     go : Dec (r ≡ x) → get_or (set counts x (get_or counts x 0 + 1)) r 0 ≡ get_or counts r 0 + cond (eqb x r) 1 0
     go (yes e) = rw (e, eq-eqb x x refl) (get_or-set_same counts x _ 0 (omega (arith, h, e)))
     go (no f) = rw (ne_eqb x r (λ e. f (sym e))) (get_or-set_other counts x r _ 0 f ∙ omega arith)
-get_d_counted false x counts r h = omega arith
+get_or_counted false x counts r h = omega arith
 
 -- a bound of the counts in the table is one of every place: past the end 0 is read
 pub low_everywhere : (counts : List ℕ) {most : ℕ} → ((r : ℕ) → r < length counts → get_or counts r 0 ≤ most)
@@ -44,4 +44,4 @@ counted_low wanted x counts {after} {most} e low =
     go : (r : ℕ) → r < length (counted wanted x counts) → get_or (counted wanted x counts) r 0 ≤ most + 1
     go r h =
         let l : r < length counts = omega (arith, h, length_counted wanted x counts) in
-        rw (get_d_counted wanted x counts r l) (omega (arith, low r, one_or_none (wanted && eqb x r) refl))
+        rw (get_or_counted wanted x counts r l) (omega (arith, low r, one_or_none (wanted && eqb x r) refl))

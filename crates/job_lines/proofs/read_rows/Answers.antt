@@ -38,9 +38,9 @@ returns-in_default-row_line c =
     let loop = c.loop-k in
     let loop-test = c.loop-k-test in
     let line-end = c.line_end in
-    let row_Line = c.row_line in
+    let line = c.row_line in
     rows_stop loop.invariant.1 loop-test.true (rw c.in-At.is at line-end.ensures)
-    (rw c.in_default-row_line.is at row_Line.ensures)
+    (rw c.in_default-row_line.is at line.ensures)
 
 pub overflow_add-start : goal.overflow_add-start
 overflow_add-start c =
@@ -53,10 +53,10 @@ loop-k-preserved c =
     let loop = c.loop-k in
     let loop-test = c.loop-k-test in
     let line-end = c.line_end in
-    let row_Line = c.row_line in (
+    let line = c.row_line in (
       omega arith,
       rows_more loop.invariant.1 loop-test.true (rw c.in-At.is at line-end.ensures)
-          (rw c.in-At-row_line.is at row_Line.ensures) (omega arith),
+          (rw c.in-At-row_line.is at line.ensures) (omega arith),
     )
 
 pub shape_of-out : goal.shape_of-out
