@@ -25,7 +25,7 @@ module _ (s : List ℕ) where
   abbrev type_if : Bool → (ℕ → ℕ) → ℕ → ℕ
   type_if named types q = elim named [ true ↦ types q | false ↦ no_type ]
 
-  -- the content type of a row before n, noType where it has none
+  -- the content type of a row before n, no_type where it has none
   unfoldable pub type_below : ℕ → ℕ → ℕ
   type_below zero r = no_type
   type_below (suc n) r =

@@ -94,7 +94,7 @@ module _ (test : ℕ → Bool) where
       go true e = ap (λ (k : ℕ). k + 1) e
       go false e = ap (λ (k : ℕ). k + 0) e
 
--- no element that keeps the limits of code 10 has more than maxWidth attributes or children
+-- no element that keeps the limits of code 10 has more than max_width attributes or children
 module _ {t : List ℕ} {e : ℕ} (h : e < nodes_of t) (k : kind_of t e ≡ element) (narrow : ¬ WidthFault t e) where
   pub few_attributes : length (attributes_of t e) ≤ max_width
   few_attributes = rw (length_rows (is_attribute t e) (nodes_of t)) (not_less (λ l. narrow (many_attributes h k l)))

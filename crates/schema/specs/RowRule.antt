@@ -57,7 +57,7 @@ pub data SizeFault (s : List ℕ) (r : ℕ) : Type 0 where
   too_many_rows : max_rows < rows_of s → r ≡ 0 → SizeFault s r
   broken_length : length s % 3 ≢ 0 → r ≡ 0 → SizeFault s r
 
--- a table of 1 to maxRows whole rows
+-- a table of 1 to max_rows whole rows
 abbrev pub SizeRight : List ℕ → Type 0
 SizeRight s = (r : ℕ) → ¬ SizeFault s r
 

@@ -39,7 +39,7 @@ clash_by k c d =
     cond (eqb k kind.one_or_more) (clashes c c)
     (cond (sharing_kind k) (clashes c d) false)
 
--- t is the content type of row r, or noType where it has none
+-- t is the content type of row r, or no_type where it has none
 pub record TypeIs (s : List ℕ) (r t : ℕ) : Type 0 where
   pub has : typed t ≡ true → HasType s r t
   pub only : (c : ℕ) → HasType s r c → c ≡ t

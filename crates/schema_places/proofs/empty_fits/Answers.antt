@@ -1,4 +1,4 @@
--- The test is emptyFits of the words read.
+-- The test is empty_fits of the words read.
 use Rattle.schema_places.proofs.empty_fits.Goals as goal
 
 pub returns : goal.returns
