@@ -69,7 +69,10 @@ def refused_at(log, crate, at):
     """The facts at which a function, or a file of lemmas, is refused."""
     if at.endswith(".antt"):
         return errors_in(log, at)
-    return errors_in(log, f"proofs/{proof_of(crate, at)}/") | unproved_in(log, crate, at)
+    proof = proof_of(crate, at)
+    facts = errors_in(log, f"proofs/{proof}/") | unproved_in(log, crate, at)
+    # The proof of several functions that call each other has the facts of each, under its name.
+    return {fact for fact in facts if proof in [at, f"+{at}"] or fact.startswith(f"{at}-")}
 
 
 def is_refused(log):
