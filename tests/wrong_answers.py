@@ -21,7 +21,8 @@ from tally import end, hold, read
 from edits import answers
 from tries import tried
 
-FUNCTION = re.compile(r"^(?:pub )?(?:extern \"C\" )?fn (\w+).*?^\}$", re.M | re.S)
+# A function with its attributes, at which the prover places what it says of it.
+FUNCTION = re.compile(r"^(?:#\[[^\n]*\n)*(?:pub )?(?:extern \"C\" )?fn (\w+).*?^\}$", re.M | re.S)
 # A fact fails for want of a name where a proof cites what the edit took away: that says nothing of the contract.
 UNNAMED = re.compile(r"was not admitted|is not in scope|has no (field )?`")
 
