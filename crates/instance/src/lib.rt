@@ -23,40 +23,40 @@ pub const TEXT: u32 = 3;
 pub fn kind(instance: &[u32], row: u32) -> u32
     ensures { result ≡ kind_of instance.now row }
 {
-    tables::word(instance, row as usize * 5)
+    tables::at(instance, row as usize * 5)
 }
 
 // The second word of a row, its parent; 0 past the end.
 pub fn parent(instance: &[u32], row: u32) -> u32
     ensures { result ≡ parent_of instance.now row }
 {
-    tables::word(instance, row as usize * 5 + 1)
+    tables::at(instance, row as usize * 5 + 1)
 }
 
 // The third word of a row; 0 past the end.
 pub fn field_a(instance: &[u32], row: u32) -> u32
     ensures { result ≡ a_of instance.now row }
 {
-    tables::word(instance, row as usize * 5 + 2)
+    tables::at(instance, row as usize * 5 + 2)
 }
 
 // The fourth word of a row; 0 past the end.
 pub fn field_b(instance: &[u32], row: u32) -> u32
     ensures { result ≡ b_of instance.now row }
 {
-    tables::word(instance, row as usize * 5 + 3)
+    tables::at(instance, row as usize * 5 + 3)
 }
 
 // The fifth word of a row; 0 past the end.
 pub fn field_c(instance: &[u32], row: u32) -> u32
     ensures { result ≡ c_of instance.now row }
 {
-    tables::word(instance, row as usize * 5 + 4)
+    tables::at(instance, row as usize * 5 + 4)
 }
 
 // Yes exactly for the kinds of rows that are children: elements and texts.
 pub fn is_child(kind: u32) -> bool
     ensures { result ≡ (eqb kind element || eqb kind text) }
 {
-    (kind == ELEMENT) | (kind == TEXT)
+    matches!(kind, ELEMENT | TEXT)
 }
