@@ -2,15 +2,14 @@
 #![tactic(auto)]
 
 ghost use Rattle.std.specs.Prelude.{◌≡◌, ◌≤◌, ◌<◌, length};
-ghost use Rattle.tables.specs.Answers.{Decides, Finds};
+ghost use Rattle.tables.specs.Answers.{Decides};
+ghost use Rattle.tables.specs.Checks.{Finds};
 ghost use Rattle.tables.specs.Place.{Part};
 ghost use Rattle.tables.specs.Tables.{string_table};
 ghost use Rattle.strings.specs.Strings.{start_of, end_of, Falls, RepeatsText};
 ghost use Rattle.strings.specs.Strings.{FrontFault, EndFault, StringFault, max_strings};
 ghost use Rattle.strings.specs.Chains.{hash_of, hash_at, LastOf, Linked};
 ghost use Rattle.strings.specs.Text.{StringText};
-
-use tables::Checked;
 
 pub const MAX_STRINGS: usize = 512;
 
@@ -23,7 +22,7 @@ pub fn start(ends: &[u32], k: usize) -> usize
     if k == 0 {
         0
     } else {
-        tables::word(ends, k - 1) as usize
+        tables::at(ends, k - 1) as usize
     }
 }
 
@@ -32,32 +31,30 @@ pub fn text<'a>(bytes: &'a [u8], ends: &[u32], k: usize) -> &'a [u8]
     ensures { Part bytes.entry (start_of ends.now k) (end_of ends.now k) result }
 {
     let from = start(ends, k);
-    let to = tables::word(ends, k) as usize;
+    let to = tables::at(ends, k) as usize;
     tables::part(bytes, from, to)
 }
 
 // The first string whose end is before its start.
-fn first_fall(ends: &[u32]) -> Checked
+fn first_fall(ends: &[u32]) -> Result<(), u32>
     requires { length ends.now ≤ max_strings }
     ensures { Finds (Falls ends.now) result }
 {
-    let mut k = 0;
-    while k < ends.len() {
+    for k in 0..ends.len() {
         if (ends[k] as usize) < start(ends, k) {
-            return Checked::Fault(k as u32);
+            return Err(k as u32);
         }
-        k += 1;
     }
-    Checked::Fine
+    Ok(())
 }
 
 // A number below 512 of a text: texts with different numbers differ.
 fn hash(text: &[u8]) -> usize
     ensures { result ≡ hash_of text.now }
 {
-    let first = tables::byte(text, 0) as usize;
-    let second = tables::byte(text, 1) as usize;
-    let middle = tables::byte(text, text.len() / 2) as usize;
+    let first = tables::at(text, 0) as usize;
+    let second = tables::at(text, 1) as usize;
+    let middle = tables::at(text, text.len() / 2) as usize;
     (text.len() % 512 + first * 37 + second * 17 + middle * 5) % 512
 }
 
@@ -72,7 +69,7 @@ fn repeats(bytes: &[u8], ends: &[u32], prior: &[u32; 512], last: u32, k: usize) 
     let mut m = last;
     while 0 < m {
         let j = m as usize - 1;
-        if tables::same_bytes(text(bytes, ends, j), own) {
+        if text(bytes, ends, j) == own {
             return true;
         }
         m = prior[j];
@@ -82,72 +79,52 @@ fn repeats(bytes: &[u8], ends: &[u32], prior: &[u32; 512], last: u32, k: usize) 
 
 // The first string that has the text of one before it. For each hash, `last` has one more than the number of the last
 // string with it, and 0 where there is none; `prior` has for each string what `last` had for its hash.
-fn first_repeat(bytes: &[u8], ends: &[u32]) -> Checked
+fn first_repeat(bytes: &[u8], ends: &[u32]) -> Result<(), u32>
     requires { length ends.now ≤ max_strings }
     ensures { Finds (RepeatsText (string_table bytes.now ends.now)) result }
 {
     let mut last = [0u32; 512];
     let mut prior = [0u32; 512];
-    let mut k = 0;
-    while k < ends.len() {
+    for k in 0..ends.len() {
         let h = hash(text(bytes, ends, k));
         let m = last[h];
         if repeats(bytes, ends, &prior, m, k) {
-            return Checked::Fault(k as u32);
+            return Err(k as u32);
         }
         prior[k] = m;
         last[h] = k as u32 + 1;
-        k += 1;
     }
-    Checked::Fine
+    Ok(())
 }
 
 // The number of strings, the number of bytes, and string 0.
-fn check_front(bytes: &[u8], ends: &[u32]) -> Checked
+fn check_front(bytes: &[u8], ends: &[u32]) -> Result<(), u32>
     ensures { Finds (FrontFault (string_table bytes.now ends.now)) result }
 {
-    if ends.len() == 0 {
-        return Checked::Fault(0);
+    if ends.is_empty() || MAX_STRINGS < ends.len() || MAX_BYTES < bytes.len() || ends[0] != 0 {
+        return Err(0);
     }
-    if MAX_STRINGS < ends.len() {
-        return Checked::Fault(0);
-    }
-    if MAX_BYTES < bytes.len() {
-        return Checked::Fault(0);
-    }
-    if ends[0] != 0 {
-        return Checked::Fault(0);
-    }
-    Checked::Fine
+    Ok(())
 }
 
 // The counts and the ends.
-fn check_ends(bytes: &[u8], ends: &[u32]) -> Checked
+fn check_ends(bytes: &[u8], ends: &[u32]) -> Result<(), u32>
     ensures { Finds (EndFault (string_table bytes.now ends.now)) result }
 {
-    let front = check_front(bytes, ends);
-    let Checked::Fine = front else {
-        return front;
-    };
-    let falls = first_fall(ends);
-    let Checked::Fine = falls else {
-        return falls;
-    };
+    check_front(bytes, ends)?;
+    first_fall(ends)?;
     let last = ends.len() - 1;
     if ends[last] as usize != bytes.len() {
-        return Checked::Fault(last as u32);
+        return Err(last as u32);
     }
-    Checked::Fine
+    Ok(())
 }
 
-// Code 1: `Fine` exactly when the strings keep their rule, and otherwise the smallest place at which they break it.
-pub fn check_strings(bytes: &[u8], ends: &[u32]) -> Checked
+// Code 1: `Ok` exactly when the strings keep their rule, and otherwise the smallest place at which they break it.
+pub fn check_strings(bytes: &[u8], ends: &[u32]) -> Result<(), u32>
     ensures { Finds (StringFault (string_table bytes.now ends.now)) result }
 {
-    let checked = check_ends(bytes, ends);
-    let Checked::Fine = checked else {
-        return checked;
-    };
+    check_ends(bytes, ends)?;
     first_repeat(bytes, ends)
 }
 
@@ -156,12 +133,8 @@ pub fn check_strings(bytes: &[u8], ends: &[u32]) -> Checked
 pub fn string_text<'a>(bytes: &'a [u8], ends: &[u32], k: u32) -> &'a [u8]
     ensures { StringText bytes.entry ends.now k result }
 {
-    let Checked::Fine = check_strings(bytes, ends) else {
-        return &bytes[..0];
-    };
-    let at = k as usize;
-    if ends.len() <= at {
-        return &bytes[..0];
+    match check_strings(bytes, ends) {
+        Ok(()) if (k as usize) < ends.len() => text(bytes, ends, k as usize),
+        _ => &bytes[..0],
     }
-    text(bytes, ends, at)
 }

@@ -9,9 +9,6 @@ use Rattle.strings.specs.Chains.{Linked, Lasts}
 use Rattle.strings.proofs.first_repeat.Given as goal
 
 abbrev pub invariant-loop-k : goal.invariant-loop-k
-invariant-loop-k l = (l.k ≤ length l.ends) × Clear (RepeatsText (string_table l.bytes l.ends)) l.k
+invariant-loop-k l = Clear (RepeatsText (string_table l.bytes l.ends)) l.k
     × Lasts (string_table l.bytes l.ends) l.last l.k × (length l.prior ≡ 512)
     × Linked (string_table l.bytes l.ends) l.prior l.k
-
-abbrev pub decreases-loop-k : goal.decreases-loop-k
-decreases-loop-k l = length l.ends - l.k

@@ -4,4 +4,4 @@ use Rattle.strings.proofs.hash.Goals as goal
 
 pub returns : goal.returns
 unfolding hash_of
-returns c = rw (← c.byte-first.ensures, ← c.byte-second.ensures, ← c.byte-middle.ensures)
+returns c = rw (← c.at-first.ensures, ← c.at-second.ensures, ← c.at-middle.ensures)

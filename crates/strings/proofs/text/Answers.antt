@@ -2,4 +2,4 @@
 use Rattle.strings.proofs.text.Goals as goal
 
 pub returns : goal.returns
-returns c = rw (← c.start-from.ensures, ← c.word-to.ensures) c.part.ensures
+returns c = rw (← c.start-from.ensures, ← c.at-to.ensures) c.part.ensures
