@@ -1,5 +1,5 @@
--- Whether a field names a child, which is a smaller row, from what the code has read of the row.
-use mathlib.Core.Path.{◌≡◌, refl, sym}
+-- The children of a row, which are smaller rows.
+use mathlib.Core.Path.{◌≡◌, refl}
 use mathlib.Core.Bool.{Bool, true, false, false≢true}
 use mathlib.Core.Logic.{◌⊎◌, inl, inr}
 use mathlib.Core.List.{List}
@@ -16,14 +16,6 @@ use Rattle.schema.specs.Relations.{Child, by_a, by_b}
 use Rattle.schema.specs.declared.Field.{Field}
 use Rattle.schema.specs.declared.Field.TheVariants.{Unused, APattern, PatternOrNone, AClass, ClassOrNone}
 use Rattle.schema.specs.declared.Field.TheVariants.{Definition, Datatype, StringNumber, Local}
-use Rattle.schema.specs.declared.Shape.{Shape}
-
-module _ (s : List ℕ) (p : ℕ) {k x : ℕ} {shape : Shape} {r : Bool} where
-  pub named_a : k ≡ kind_of s p → shape ≡ shape_of k → x ≡ a_of s p → r ≡ names s p shape.a x → names_a s p ≡ r
-  named_a e f g h = rw (← e, ← f, ← g) (sym h)
-
-  pub named_b : k ≡ kind_of s p → shape ≡ shape_of k → x ≡ b_of s p → r ≡ names s p shape.b x → names_b s p ≡ r
-  named_b e f g h = rw (← e, ← f, ← g) (sym h)
 
 -- a child is a smaller row
 names_less : (s : List ℕ) (p : ℕ) (f : Field) (x : ℕ) → names s p f x ≡ true → x < p

@@ -14,15 +14,6 @@ use Rattle.schema.specs.Rows.{kind_of, shape_of, is_element}
 use Rattle.schema.proofs.Sorts.{definition_kind}
 use Rattle.schema.specs.Definitions.{is_definition, DefinitionsBefore, Definitions}
 
-pub definitions_none : (s words : List ℕ) → DefinitionsBefore s words 0 0
-definitions_none s words = record {
-  few = omega arith;
-  rows = λ k h. absurd (omega arith);
-  defined = λ k h. absurd (omega arith);
-  rising = λ j k i h. absurd (omega arith);
-  every = λ d h. absurd (omega arith);
-}
-
 module _ {s words : List ℕ} {n d : ℕ} (c : DefinitionsBefore s words n d) where
   -- d is none: no word is stored
   passed : is_definition s d ≡ false → DefinitionsBefore s words n (d + 1)

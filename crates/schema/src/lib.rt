@@ -3,14 +3,12 @@
 #![tactic(auto)]
 
 ghost use Rattle.std.specs.Prelude.{◌≡◌, cond, ◌+◌, ◌≤◌, ◌<◌, length, set, drop};
-ghost use Rattle.tables.specs.Answers.{Finds};
-ghost use Rattle.schema.specs.Rows.{rows_of, kind_of, a_of, b_of, shape, shape_of, sort_of};
-ghost use Rattle.schema.specs.Rows.{names, child_a, child_b, is_pattern, is_class, is_element};
+ghost use Rattle.tables.specs.Checks.{Finds};
+ghost use Rattle.schema.specs.Kinds.{no_row};
+ghost use Rattle.schema.specs.Rows.{rows_of, kind_of, a_of, b_of, shape, shape_of, sort_of, names, child_a, child_b, is_class};
 ghost use Rattle.schema.specs.RowRule.{max_rows, field_right, SizeFault};
 ghost use Rattle.schema.specs.Definitions.{is_definition, Definitions};
 ghost use Rattle.schema.specs.Marks.{mark_if, children_marked};
-
-use tables::Checked;
 
 pub const MAX_ROWS: usize = 512;
 
@@ -55,7 +53,7 @@ pub const ELEMENT: u32 = 20;
 pub const START: u32 = 21;
 
 // What a row is.
-#[derive(Clone, Copy)]
+#[derive(Clone, Copy, Debug, PartialEq, Eq)]
 pub enum Sort {
     Pattern,
     NameClass,
@@ -66,7 +64,7 @@ pub enum Sort {
 
 // What a field of a row holds: a pattern or a name class, at a smaller row; such a row or none; the row of a
 // definition; a datatype; the number of a string, or of a local name.
-#[derive(Clone, Copy)]
+#[derive(Clone, Copy, Debug, PartialEq, Eq)]
 pub enum Field {
     Unused,
     APattern,
@@ -80,7 +78,7 @@ pub enum Field {
 }
 
 // What a row of a kind is, and what its fields hold.
-#[derive(Clone, Copy)]
+#[derive(Clone, Copy, Debug, PartialEq, Eq)]
 pub struct Shape {
     pub sort: Sort,
     pub a: Field,
@@ -91,48 +89,44 @@ pub struct Shape {
 pub fn kind(schema: &[u32], row: u32) -> u32
     ensures { result ≡ kind_of schema.now row }
 {
-    tables::word(schema, row as usize * 3)
+    tables::at(schema, row as usize * 3)
 }
 
 // The second word of a row; 0 past the end.
 pub fn field_a(schema: &[u32], row: u32) -> u32
     ensures { result ≡ a_of schema.now row }
 {
-    tables::word(schema, row as usize * 3 + 1)
+    tables::at(schema, row as usize * 3 + 1)
 }
 
 // The third word of a row; 0 past the end.
 pub fn field_b(schema: &[u32], row: u32) -> u32
     ensures { result ≡ b_of schema.now row }
 {
-    tables::word(schema, row as usize * 3 + 2)
+    tables::at(schema, row as usize * 3 + 2)
 }
 
+// The first fault of code 2 that is one of the whole table, at row 0: no row, more than 512, or words that are no whole
+// rows. Ok exactly when there is none.
+pub fn check_size(schema: &[u32]) -> Result<(), u32>
+    ensures { Finds (SizeFault schema.now) result }
+{
+    let rows = schema.len() / 3;
+    if rows == 0 || MAX_ROWS < rows || schema.len() % 3 != 0 {
+        return Err(0);
+    }
+    Ok(())
+}
+
+// No literal of Shape, since that has a line for each field and the table of kinds one for each kind.
 fn made(sort: Sort, a: Field, b: Field) -> Shape
     ensures { result ≡ shape sort a b }
 {
     Shape { sort, a, b }
 }
 
-// The first fault of code 2 that is one of the whole table, at row 0: no row, more than 512, or words that are no whole
-// rows. `Fine` exactly when there is none.
-pub fn check_size(schema: &[u32]) -> Checked
-    ensures { Finds (SizeFault schema.now) result }
-{
-    let rows = schema.len() / 3;
-    if rows == 0 {
-        return Checked::Fault(0);
-    }
-    if MAX_ROWS < rows {
-        return Checked::Fault(0);
-    }
-    if schema.len() % 3 != 0 {
-        return Checked::Fault(0);
-    }
-    Checked::Fine
-}
-
 // What a row of a kind is, and what its fields hold.
+#[tactic(auto, unfolding(crate::specs::Rows::shape_of))]
 pub fn shape_of(kind: u32) -> Shape
     ensures { result ≡ shape_of kind }
 {
@@ -158,73 +152,14 @@ pub fn shape_of(kind: u32) -> Shape
 fn sort_at(schema: &[u32], row: u32) -> Sort
     ensures { result ≡ sort_of schema.now row }
 {
-    let shape = shape_of(kind(schema, row));
-    shape.sort
-}
-
-fn is_pattern(sort: Sort) -> bool
-    ensures { result ≡ is_pattern sort }
-{
-    match sort {
-        Sort::Pattern => true,
-        Sort::NameClass => false,
-        Sort::Element => false,
-        Sort::Start => false,
-        Sort::Bad => false,
-    }
-}
-
-fn is_class(sort: Sort) -> bool
-    ensures { result ≡ is_class sort }
-{
-    match sort {
-        Sort::Pattern => false,
-        Sort::NameClass => true,
-        Sort::Element => false,
-        Sort::Start => false,
-        Sort::Bad => false,
-    }
-}
-
-fn is_element(sort: Sort) -> bool
-    ensures { result ≡ is_element sort }
-{
-    match sort {
-        Sort::Pattern => false,
-        Sort::NameClass => false,
-        Sort::Element => true,
-        Sort::Start => false,
-        Sort::Bad => false,
-    }
+    shape_of(kind(schema, row)).sort
 }
 
 // Yes exactly for a row that is a name class.
 pub fn is_class_row(schema: &[u32], row: u32) -> bool
     ensures { result ≡ is_class (sort_of schema.now row) }
 {
-    is_class(sort_at(schema, row))
-}
-
-// Whether x is a smaller row than p, and a pattern.
-fn pattern_below(schema: &[u32], p: u32, x: u32) -> bool
-    ensures { result ≡ names schema.now p Field.APattern x }
-{
-    if x < p {
-        is_pattern(sort_at(schema, x))
-    } else {
-        false
-    }
-}
-
-// Whether x is a smaller row than p, and a name class.
-fn class_below(schema: &[u32], p: u32, x: u32) -> bool
-    ensures { result ≡ names schema.now p Field.AClass x }
-{
-    if x < p {
-        is_class(sort_at(schema, x))
-    } else {
-        false
-    }
+    sort_at(schema, row) == Sort::NameClass
 }
 
 // Whether the word x in a field of row p names a child.
@@ -232,15 +167,20 @@ fn names_child(schema: &[u32], p: u32, field: Field, x: u32) -> bool
     ensures { result ≡ names schema.now p field x }
 {
     match field {
-        Field::Unused => false,
-        Field::APattern => pattern_below(schema, p, x),
-        Field::PatternOrNone => pattern_below(schema, p, x),
-        Field::AClass => class_below(schema, p, x),
-        Field::ClassOrNone => class_below(schema, p, x),
-        Field::Definition => false,
-        Field::Datatype => false,
-        Field::StringNumber => false,
-        Field::Local => false,
+        Field::APattern | Field::PatternOrNone => x < p && sort_at(schema, x) == Sort::Pattern,
+        Field::AClass | Field::ClassOrNone => x < p && sort_at(schema, x) == Sort::NameClass,
+        _ => false,
+    }
+}
+
+// The child that a field of row p names by the word x; NO_ROW where it names none.
+fn child(schema: &[u32], p: u32, field: Field, x: u32) -> u32
+    ensures { result ≡ cond (names schema.now p field x) x no_row }
+{
+    if names_child(schema, p, field, x) {
+        x
+    } else {
+        NO_ROW
     }
 }
 
@@ -248,28 +188,14 @@ fn names_child(schema: &[u32], p: u32, field: Field, x: u32) -> bool
 pub fn child_a(schema: &[u32], p: u32) -> u32
     ensures { result ≡ child_a schema.now p }
 {
-    let shape = shape_of(kind(schema, p));
-    let field = shape.a;
-    let a = field_a(schema, p);
-    if names_child(schema, p, field, a) {
-        a
-    } else {
-        NO_ROW
-    }
+    child(schema, p, shape_of(kind(schema, p)).a, field_a(schema, p))
 }
 
 // The child through field b, a smaller row; NO_ROW where the field is bad or holds no child.
 pub fn child_b(schema: &[u32], p: u32) -> u32
     ensures { result ≡ child_b schema.now p }
 {
-    let shape = shape_of(kind(schema, p));
-    let field = shape.b;
-    let b = field_b(schema, p);
-    if names_child(schema, p, field, b) {
-        b
-    } else {
-        NO_ROW
-    }
+    child(schema, p, shape_of(kind(schema, p)).b, field_b(schema, p))
 }
 
 // Row r is marked where it is wanted.
@@ -277,8 +203,7 @@ fn mark_if(marks: &mut [u32], wanted: bool, r: u32)
     ensures { marks.new ≡ mark_if wanted r marks.old }
 {
     if wanted {
-        tables::put_u32(marks, r as usize, 1);
-        return;
+        tables::put(marks, r as usize, 1);
     }
 }
 
@@ -298,26 +223,13 @@ pub fn field_right(strings: usize, schema: &[u32], p: u32, field: Field, x: u32)
 {
     match field {
         Field::Unused => x == 0,
-        Field::APattern => pattern_below(schema, p, x),
-        Field::PatternOrNone => {
-            if x == NO_ROW {
-                true
-            } else {
-                pattern_below(schema, p, x)
-            }
-        }
-        Field::AClass => class_below(schema, p, x),
-        Field::ClassOrNone => {
-            if x == NO_ROW {
-                true
-            } else {
-                class_below(schema, p, x)
-            }
-        }
-        Field::Definition => is_element(sort_at(schema, x)),
+        Field::APattern | Field::AClass => names_child(schema, p, field, x),
+        Field::PatternOrNone | Field::ClassOrNone => x == NO_ROW
+            || names_child(schema, p, field, x),
+        Field::Definition => sort_at(schema, x) == Sort::Element,
         Field::Datatype => x < 2,
         Field::StringNumber => (x as usize) < strings,
-        Field::Local => { if 0 < x { (x as usize) < strings } else { false } }
+        Field::Local => 0 < x && (x as usize) < strings,
     }
 }
 
@@ -328,7 +240,7 @@ fn add_definition(schema: &[u32], d: u32, n: u32, rows: &mut [u32]) -> u32
     ensures stored { rows.new ≡ cond (is_definition schema.now d) (set rows.old n d) rows.old }
 {
     if kind(schema, d) == ELEMENT {
-        tables::put_u32(rows, n as usize, d);
+        tables::put(rows, n as usize, d);
         return n + 1;
     }
     n
@@ -341,12 +253,9 @@ pub fn definitions(schema: &[u32], rows: &mut [u32]) -> u32
     ensures definitions { Definitions schema.now rows.new result }
     ensures rest { drop result rows.new ≡ drop result rows.old }
 {
-    let all = schema.len() / 3;
-    let mut n: u32 = 0;
-    let mut d: u32 = 0;
-    while (d as usize) < all {
+    let mut n = 0;
+    for d in 0..(schema.len() / 3) as u32 {
         n = add_definition(schema, d, n, rows);
-        d += 1;
     }
     n
 }

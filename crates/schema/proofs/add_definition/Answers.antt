@@ -12,7 +12,7 @@ returns-then-kind-eq-ELEMENT c =
     let z : is_definition s.schema.now s.d
     ≡ true = is_definition_lem s.schema.now s.d (sym c.kind.ensures
     ∙ c.if-kind-eq-ELEMENT.true) in
-    record { value = rw z; stored = c.put_u32.ensures ∙ rw z }
+    record { value = rw z; stored = c.put.ensures ∙ rw z }
 
 pub returns : goal.returns
 returns c =
