@@ -1,15 +1,16 @@
 -- Sets that are collected position by position: the laws of a loop that tests one position after the other.
 use mathlib.Core.Path.{◌≡◌, refl, sym, ap, ◌∙◌}
 use mathlib.Core.Bool.{Bool, true, false, ◌&&◌, ◌||◌}
-use Prim.Native.Nat.{ℕ, zero, suc, ◌+◌, ◌-◌, ◌*◌, ◌/◌, ◌%◌, ◌^◌, ◌<◌}
+use Prim.Native.Nat.{ℕ, zero, suc, ◌+◌, ◌-◌, ◌*◌, ◌/◌, ◌%◌, ◌^◌, ◌<◌, ◌≤◌}
 use native.Mathlib.Omega.{arith}
 use native.Mathlib.Decide.{dec_lt, ℕ_discrete}
+use mathlib.Core.Logic.{◌≢◌}
 use lib.Bits.{bit_or}
 use lib.Dec.{eqb, ltb}
 use borrow.Author.Tests.{lt-ltb, le-ltb, eq-eqb, ne_eqb}
 use Rattle.tables.proofs.Numbers.{not_less}
 use Rattle.sets.specs.Bits.{positions, flag, bit}
-use Rattle.sets.specs.Collecting.{MemberAdded, Collects}
+use Rattle.sets.specs.Collecting.{MemberAdded, Collects, CollectsBy}
 use Rattle.sets.proofs.Bits.{two_pow, bit-or, bit_none, bit_pow, one_shl}
 
 -- ---- one position more, or none
@@ -55,6 +56,40 @@ collects_more {test} {n} {w} c e a = record { members = λ k. rw (a.members k, c
 
 pub collected : {test : ℕ → Bool} {n w k : ℕ} → Collects test n w → k < n → bit w k ≡ test k
 collected {n = n} {k = k} c h = rw (lt-ltb k n h) at (c.members k)
+
+-- ---- a test that is asked at each position
+
+module _ {says : ℕ → Bool → Type 0} where
+  pub collects_by_none : CollectsBy says 0 0
+  collects_by_none = record { before = λ k h. absurd (omega arith); after = λ k h. bit_none k }
+
+  pub collects_by_more : {n w v : ℕ} {b : Bool} → CollectsBy says n w → says n b
+      → MemberAdded w n b v → CollectsBy says (n + 1) v
+  collects_by_more {n} {w} {v} {b} c s a = record { before = λ k h. go k h (ℕ_discrete k n); after = above }
+    where
+      none : (x : Bool) → (x || false) ≡ x
+      none true = refl
+      none false = refl
+
+      same : (k : ℕ) → k ≢ n → bit v k ≡ bit w k
+      same k d = a.members k ∙ rw (ne_eqb k n d) (none (bit w k))
+
+      go : (k : ℕ) → k < n + 1 → Dec (k ≡ n) → says k (bit v k)
+      go k h (yes e) =
+          rw (e, a.members n, c.after n (omega arith), eq-eqb n n refl) s
+      go k h (no d) = rw (same k d) (c.before k (omega (arith, h, d)))
+
+      above : (k : ℕ) → n + 1 ≤ k → bit v k ≡ false
+      above k h = same k (λ e. omega (arith, h, e)) ∙ c.after k (omega (arith, h))
+
+  -- a test that can say one thing only
+  pub collects_by : {test : ℕ → Bool} {n w : ℕ} → ((k : ℕ) (b : Bool) → says k b → b ≡ test k)
+      → CollectsBy says n w → Collects test n w
+  collects_by {test} {n} {w} told c = record { members = λ k. go k (dec_lt k n) }
+    where
+      go : (k : ℕ) → Dec (k < n) → bit w k ≡ (ltb k n && test k)
+      go k (yes h) = rw (lt-ltb k n h) (told k (bit w k) (c.before k h))
+      go k (no f) = let l = not_less f in rw (le-ltb k n l) (c.after k l)
 
 -- ---- all positions before n
 
