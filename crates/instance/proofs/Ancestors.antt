@@ -7,8 +7,9 @@ use Prim.Native.Nat.{ℕ, zero, suc, ◌+◌, ◌-◌, ◌≤◌, ◌<◌}
 use native.Mathlib.Omega.{arith}
 use native.Mathlib.Decide.{dec_lt, ℕ_discrete}
 use lib.Dec.{eqb}
-use borrow.Author.Tests.{eqb-false}
+use borrow.Author.Tests.{eqb-true, eqb-false}
 use borrow.Author.Count.{below_more}
+use Rattle.tables.specs.Answers.{Decides}
 use Rattle.instance.specs.Nodes.{element, no_parent, kind_of, parent_of}
 use Rattle.instance.specs.NodeRule.{max_nodes, nearest, SelfOrAncestor, itself, above, ParentRight}
 use Rattle.instance.specs.Walk.{Rooted}
@@ -16,6 +17,14 @@ use Rattle.instance.specs.Walk.{Rooted}
 pub sure : {A : Type 0} → Dec A → ¬ (¬ A) → A
 sure (yes a) f = a
 sure (no g) f = absurd (f g)
+
+-- a fact that holds exactly where two numbers are equal
+pub told_by_eqb : {A : Type 0} (a b : ℕ) → (a ≡ b → A) → (a ≢ b → ¬ A) → Decides A (eqb a b)
+told_by_eqb {A} a b same other = go (eqb a b) refl
+  where
+    go : (t : Bool) → eqb a b ≡ t → Decides A t
+    go true e = same (eqb-true a b e)
+    go false e = other (eqb-false a b e)
 
 pub up_none : {t : List ℕ} {x e : ℕ} → SelfOrAncestor t x e → e ≡ no_parent → x ≡ no_parent
 up_none itself z = z

@@ -11,6 +11,7 @@ use lib.ListN.{length, get_or, set, length-set, length-replicate}
 use lib.Seq.{get_or-set_same, get_or-set_other}
 use borrow.Author.Tests.{eq-eqb, ne_eqb, eqb-true}
 use borrow.Author.Count.{below_none, below_more}
+use Rattle.std.proofs.lemmas.List.{set_past}
 use Rattle.tables.specs.Answers.{Decides}
 use Rattle.tables.specs.Outputs.{zeros}
 use Rattle.tables.proofs.Fill.{get_or_zeros}
@@ -73,21 +74,27 @@ module _ {t last : List ℕ} {r : ℕ} (c : LastChildren t last r) where
   pub noted_other : {k : ℕ} → k ≡ kind_of t r → (eqb k element || eqb k text) ≡ false → LastChildren t last (r + 1)
   noted_other j other = noted_none (λ e l. rw (← j, other) (and-false (eqb (parent_of t r) e)))
 
-  pub noted_outside : {p : ℕ} → p ≡ parent_of t r → length last ≤ p → LastChildren t last (r + 1)
+  noted_outside : {p : ℕ} → p ≡ parent_of t r → length last ≤ p → LastChildren t last (r + 1)
   noted_outside i h = noted_none (λ e l. rw (ne_eqb (parent_of t r) e (λ z. omega (arith, c.size))))
 
   pub noted : {p k : ℕ} → p ≡ parent_of t r → k ≡ kind_of t r → (eqb k element || eqb k text) ≡ true
-      → p < length last → LastChildren t (set last p k) (r + 1)
-  noted {p} {k} i j child h = record {
-    size = length-set last p k ∙ c.size;
-    kinds = λ e l. go e l (ℕ_discrete e p);
-  }
+      → LastChildren t (set last p k) (r + 1)
+  noted {p} {k} i j child = stored (dec_lt p (length last))
     where
-      go : (e : ℕ) → e < max_nodes → Dec (e ≡ p) → LastChild t e (r + 1) (get_or (set last p k) e 0)
-      go e l (yes z) = rw (z, get_or-set_same last p k 0 h) (last_new r (rw (← i, ← j, eq-eqb p p refl) child) (sym j))
-      go e l (no f) =
+      go : p < length last → (e : ℕ) → e < max_nodes → Dec (e ≡ p) → LastChild t e (r + 1) (get_or (set last p k) e 0)
+      go h e l (yes z) = rw (z, get_or-set_same last p k 0 h) (last_new r (rw (← i, ← j, eq-eqb p p refl) child) (sym j))
+      go h e l (no f) =
           rw (get_or-set_other last p e k 0 f)
           (last_kept (rw (ne_eqb (parent_of t r) e (λ z. f (sym z ∙ sym i)))) (c.kinds e l))
+
+      stored : Dec (p < length last) → LastChildren t (set last p k) (r + 1)
+      stored (yes h) = record {
+        size = length-set last p k ∙ c.size;
+        kinds = λ e l. go h e l (ℕ_discrete e p);
+      }
+      stored (no f) =
+          let past : length last ≤ p = omega arith in
+          rw (set_past last p k past) (noted_outside i past)
 
 pub no_repeats : {t : List ℕ} {p r q : ℕ} → r ≤ q → ((x : ℕ) → x < q → p < x → ¬ Twin t p x r) → ¬ RepeatsName t p r
 no_repeats h f (repeats x m l twin) = f x (omega arith) m twin
@@ -135,14 +142,6 @@ module _ {t last : List ℕ} {r k p before : ℕ} (placed : Placed t last r)
       go (child_at q l c z b) = text_after_text q l (sym ke ∙ e) (z ∙ f) (child_parent t p q c ∙ pe) (rw (← pe) b)
 
   module _ (strings : ℕ) (fields : fields_right strings (kind_of t r) (a_of t r) (b_of t r) (c_of t r) ≡ true) where
-    -- an element, whose fields and parent are right
-    pub element_right : k ≢ attribute → k ≢ text → ¬ WrongNode strings t r
-    element_right a x (bad_fields f) = true≢false (sym fields ∙ f)
-    element_right a x (bad_parent f) = f placed.parent
-    element_right a x (late_attribute q l y c) = a (ke ∙ y)
-    element_right a x (same_attribute q l y c s) = a (ke ∙ y)
-    element_right a x (text_after_text q l y z s b) = x (ke ∙ y)
-
     attribute_right : k ≡ attribute → before ≡ 0 → ¬ RepeatsName t p r → ¬ WrongNode strings t r
     attribute_right e f n (bad_fields g) = true≢false (sym fields ∙ g)
     attribute_right e f n (bad_parent g) = g placed.parent

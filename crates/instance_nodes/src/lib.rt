@@ -2,7 +2,8 @@
 #![tactic(auto)]
 
 ghost use Rattle.std.specs.Prelude.{◌≡◌, ◌&&◌, ◌||◌, ◌+◌, ◌≤◌, ◌<◌, eqb, ltb};
-ghost use Rattle.tables.specs.Answers.{Decides, Finds};
+ghost use Rattle.tables.specs.Answers.{Decides};
+ghost use Rattle.tables.specs.Checks.{Finds};
 ghost use Rattle.tables.specs.Outputs.{zeros};
 ghost use Rattle.instance.specs.Nodes.{element, nodes_of, is_child, is_attribute};
 ghost use Rattle.instance.specs.NodeRule.{max_nodes, fields_right, nearest, ParentRight};
@@ -12,43 +13,37 @@ ghost use Rattle.instance.specs.Width.{max_width, WidthFault};
 ghost use Rattle.instance_nodes.specs.Counts.{RowsCounted};
 
 use instance::{ATTRIBUTE, ELEMENT, MAX_NODES, MAX_WIDTH, NO_PARENT, TEXT};
-use tables::Checked;
 
 // Whether x is the number of a string other than the empty one, string 0.
 fn is_nonempty(strings: usize, x: u32) -> bool
     ensures { result ≡ (ltb 0 x && ltb x strings) }
 {
-    (0 < x) & ((x as usize) < strings)
+    0 < x && (x as usize) < strings
 }
 
 // Whether a row of a kind may have these fields, beside so many strings.
+#[tactic(auto, unfolding(instance::specs::NodeRule::fields_right))]
 fn fields_right(strings: usize, kind: u32, a: u32, b: u32, c: u32) -> bool
     ensures { result ≡ fields_right strings kind a b c }
 {
-    let named = ((a as usize) < strings) & is_nonempty(strings, b);
+    let named = (a as usize) < strings && is_nonempty(strings, b);
     match kind {
-        ELEMENT => named & (c == 0),
-        ATTRIBUTE => named & ((c as usize) < strings),
-        TEXT => is_nonempty(strings, a) & (b == 0) & (c == 0),
+        ELEMENT => named && c == 0,
+        ATTRIBUTE => named && (c as usize) < strings,
+        TEXT => is_nonempty(strings, a) && b == 0 && c == 0,
         _ => false,
     }
 }
 
 // The number of words and rows.
-fn check_size(instance: &[u32]) -> Checked
+fn check_size(instance: &[u32]) -> Result<(), u32>
     ensures { Finds (NodeSizeFault instance.now) result }
 {
     let nodes = instance.len() / 5;
-    if nodes == 0 {
-        return Checked::Fault(0);
+    if nodes == 0 || MAX_NODES < nodes || instance.len() % 5 != 0 {
+        return Err(0);
     }
-    if MAX_NODES < nodes {
-        return Checked::Fault(0);
-    }
-    if instance.len() % 5 != 0 {
-        return Checked::Fault(0);
-    }
-    Checked::Fine
+    Ok(())
 }
 
 // The nearest element of a row: itself, if it is one, and otherwise its parent.
@@ -66,13 +61,7 @@ fn nearest_element(instance: &[u32], row: u32) -> u32
 fn root_right(instance: &[u32]) -> bool
     ensures { Decides (ParentRight instance.now 0) result }
 {
-    if instance::kind(instance, 0) != ELEMENT {
-        return false;
-    }
-    if instance::parent(instance, 0) != NO_PARENT {
-        return false;
-    }
-    true
+    instance::kind(instance, 0) == ELEMENT && instance::parent(instance, 0) == NO_PARENT
 }
 
 // Whether the parent of row r is the nearest element of the row before, or an ancestor of that.
@@ -86,10 +75,7 @@ fn parent_open(instance: &[u32], r: u32) -> bool
     while p < e {
         e = instance::parent(instance, e);
     }
-    if e == p {
-        return true;
-    }
-    false
+    e == p
 }
 
 // Whether row r has a parent as it may have.
@@ -98,28 +84,20 @@ fn parent_right(instance: &[u32], r: u32) -> bool
     ensures { Decides (ParentRight instance.now r) result }
 {
     if r == 0 {
-        return root_right(instance);
+        root_right(instance)
+    } else {
+        parent_open(instance, r)
     }
-    parent_open(instance, r)
 }
 
 // Whether row q is an attribute of element p, with the name of row r.
 fn is_twin(instance: &[u32], p: u32, q: u32, r: u32) -> bool
     ensures { Decides (Twin instance.now p q r) result }
 {
-    if instance::parent(instance, q) != p {
-        return false;
-    }
-    if instance::kind(instance, q) != ATTRIBUTE {
-        return false;
-    }
-    if instance::field_a(instance, q) != instance::field_a(instance, r) {
-        return false;
-    }
-    if instance::field_b(instance, q) != instance::field_b(instance, r) {
-        return false;
-    }
-    true
+    instance::parent(instance, q) == p
+        && instance::kind(instance, q) == ATTRIBUTE
+        && instance::field_a(instance, q) == instance::field_a(instance, r)
+        && instance::field_b(instance, q) == instance::field_b(instance, r)
 }
 
 // Whether an attribute of element p between p and r has the name of row r.
@@ -127,14 +105,7 @@ fn repeats_name(instance: &[u32], p: u32, r: u32) -> bool
     requires { (p < r) × (r ≤ max_nodes) }
     ensures { Decides (RepeatsName instance.now p r) result }
 {
-    let mut q = p + 1;
-    while q < r {
-        if is_twin(instance, p, q, r) {
-            return true;
-        }
-        q += 1;
-    }
-    false
+    (p + 1..r).any(|q| is_twin(instance, p, q, r))
 }
 
 // Whether row r, whose fields and parent are right, is an attribute after a child or with the name of an earlier one,
@@ -147,19 +118,12 @@ fn misplaced(instance: &[u32], last: &[u32], r: u32) -> bool
 {
     let k = instance::kind(instance, r);
     let p = instance::parent(instance, r);
-    let before = tables::word(last, p as usize);
-    if k == ATTRIBUTE {
-        if before != 0 {
-            return true;
-        }
-        return repeats_name(instance, p, r);
+    let before = tables::at(last, p as usize);
+    match k {
+        ATTRIBUTE => before != 0 || repeats_name(instance, p, r),
+        TEXT => before == TEXT,
+        _ => false,
     }
-    if k == TEXT {
-        if before == TEXT {
-            return true;
-        }
-    }
-    false
 }
 
 // Whether row r breaks its rule, where the rows before it keep theirs and last has the kind of each element's last
@@ -172,13 +136,7 @@ fn wrong_node(strings: usize, instance: &[u32], last: &[u32], r: u32) -> bool
     let a = instance::field_a(instance, r);
     let b = instance::field_b(instance, r);
     let c = instance::field_c(instance, r);
-    if !fields_right(strings, k, a, b, c) {
-        return true;
-    }
-    if !parent_right(instance, r) {
-        return true;
-    }
-    misplaced(instance, last, r)
+    !fields_right(strings, k, a, b, c) || !parent_right(instance, r) || misplaced(instance, last, r)
 }
 
 // Row r becomes the last child of its parent, if it is a child.
@@ -187,34 +145,28 @@ fn note_child(instance: &[u32], last: &mut [u32], r: u32)
     ensures { LastChildren instance.now last.new (r + 1) }
 {
     let k = instance::kind(instance, r);
-    if !instance::is_child(k) {
-        return;
-    }
-    let at = instance::parent(instance, r) as usize;
-    if at < last.len() {
-        last[at] = k;
+    if instance::is_child(k) {
+        tables::put(last, instance::parent(instance, r) as usize, k);
     }
 }
 
 // The first row that breaks its rule, with a table of the last children.
-fn scan_nodes(strings: usize, instance: &[u32], last: &mut [u32]) -> Checked
+fn scan_nodes(strings: usize, instance: &[u32], last: &mut [u32]) -> Result<(), u32>
     requires { (nodes_of instance.now ≤ max_nodes) × (last.old ≡ zeros max_nodes) }
     ensures { Finds (BadNode strings instance.now) result }
 {
     let nodes = instance.len() / 5;
-    let mut r = 0;
-    while r < nodes {
-        if wrong_node(strings, instance, last, r as u32) {
-            return Checked::Fault(r as u32);
+    for r in 0..nodes as u32 {
+        if wrong_node(strings, instance, last, r) {
+            return Err(r);
         }
-        note_child(instance, last, r as u32);
-        r += 1;
+        note_child(instance, last, r);
     }
-    Checked::Fine
+    Ok(())
 }
 
 // The first row that breaks its rule.
-fn first_wrong_node(strings: usize, instance: &[u32]) -> Checked
+fn first_wrong_node(strings: usize, instance: &[u32]) -> Result<(), u32>
     requires { nodes_of instance.now ≤ max_nodes }
     ensures { Finds (BadNode strings instance.now) result }
 {
@@ -222,15 +174,12 @@ fn first_wrong_node(strings: usize, instance: &[u32]) -> Checked
     scan_nodes(strings, instance, &mut last)
 }
 
-// Code 9: `Fine` exactly when the rows keep their rule beside so many strings, and otherwise the first faulty row, of
+// Code 9: `Ok` exactly when the rows keep their rule beside so many strings, and otherwise the first faulty row, of
 // two at odds the later.
-pub fn check_nodes(strings: usize, instance: &[u32]) -> Checked
+pub fn check_nodes(strings: usize, instance: &[u32]) -> Result<(), u32>
     ensures { Finds (NodeFault strings instance.now) result }
 {
-    let size = check_size(instance);
-    let Checked::Fine = size else {
-        return size;
-    };
+    check_size(instance)?;
     first_wrong_node(strings, instance)
 }
 
@@ -243,13 +192,11 @@ fn count_rows(instance: &[u32], attributes: &mut [u32], children: &mut [u32])
         × RowsCounted (is_child instance.now) children.new (nodes_of instance.now) }
 {
     let nodes = instance.len() / 5;
-    let mut r = 0;
-    while r < nodes {
-        let k = instance::kind(instance, r as u32);
-        let p = instance::parent(instance, r as u32);
+    for r in 0..nodes as u32 {
+        let k = instance::kind(instance, r);
+        let p = instance::parent(instance, r);
         tables::count_if(attributes, p, k == ATTRIBUTE);
         tables::count_if(children, p, instance::is_child(k));
-        r += 1;
     }
 }
 
@@ -257,34 +204,32 @@ fn count_rows(instance: &[u32], attributes: &mut [u32], children: &mut [u32])
 fn is_wide(kind: u32, attributes: u32, children: u32) -> bool
     ensures { result ≡ (eqb kind element && (ltb max_width attributes || ltb max_width children)) }
 {
-    (kind == ELEMENT) & ((MAX_WIDTH < attributes) | (MAX_WIDTH < children))
+    kind == ELEMENT && (MAX_WIDTH < attributes || MAX_WIDTH < children)
 }
 
 // The first element that is too wide.
-fn first_wide(instance: &[u32], attributes: &[u32], children: &[u32]) -> Checked
+fn first_wide(instance: &[u32], attributes: &[u32], children: &[u32]) -> Result<(), u32>
     requires { (nodes_of instance.now ≤ max_nodes)
         × RowsCounted (is_attribute instance.now) attributes.now (nodes_of instance.now)
         × RowsCounted (is_child instance.now) children.now (nodes_of instance.now) }
     ensures { Finds (WidthFault instance.now) result }
 {
     let nodes = instance.len() / 5;
-    let mut e = 0;
-    while e < nodes {
+    for e in 0..nodes as u32 {
         if is_wide(
-            instance::kind(instance, e as u32),
-            tables::word(attributes, e),
-            tables::word(children, e),
+            instance::kind(instance, e),
+            tables::at(attributes, e as usize),
+            tables::at(children, e as usize),
         ) {
-            return Checked::Fault(e as u32);
+            return Err(e);
         }
-        e += 1;
     }
-    Checked::Fine
+    Ok(())
 }
 
-// Code 10: the smallest element with more than 63 attributes or 63 children; `Fine` exactly when there is none. The
+// Code 10: the smallest element with more than 63 attributes or 63 children; `Ok` exactly when there is none. The
 // caller shows that there are at most 1,024 rows.
-pub fn check_width(instance: &[u32]) -> Checked
+pub fn check_width(instance: &[u32]) -> Result<(), u32>
     requires { nodes_of instance.now ≤ max_nodes }
     ensures { Finds (WidthFault instance.now) result }
 {

@@ -12,9 +12,6 @@ use Rattle.instance_nodes.proofs.count_rows.Goals as goal
 pub loop-r-init : goal.loop-r-init
 loop-r-init c = (omega arith, rows_none _ c.requires.1, rows_none _ c.requires.2)
 
-pub overflow_cast-r-in-loop-r : goal.overflow_cast-r-in-loop-r
-overflow_cast-r-in-loop-r c = omega (arith, c.loop-r-test.true, c.requires.0)
-
 pub count_if-requires : goal.count_if-requires
 count_if-requires c =
     omega (
@@ -33,14 +30,6 @@ count_if-requires-in-loop-r c =
       c.loop-r.invariant.0,
       c.requires.0,
     )
-
-pub overflow_add-r : goal.overflow_add-r
-overflow_add-r c = omega (arith, c.loop-r.invariant.0, c.requires.0)
-
-pub loop-r-smaller : goal.loop-r-smaller
-loop-r-smaller c =
-    omega
-    (arith, c.loop-r-test.true)
 
 pub loop-r-preserved : goal.loop-r-preserved
 loop-r-preserved c = (

@@ -1,36 +1,28 @@
 -- The invariant: no row before e is too wide; the counts of a row are those of its attributes and children.
 use native.Mathlib.Omega.{arith}
 use borrow.Author.Count.{below_none, below_more}
-use Rattle.tables.proofs.Answers.{said_yes, said_no, finds_none}
+use Rattle.tables.proofs.Answers.{said_yes, said_no}
+use Rattle.tables.proofs.Checks.{finds_none}
 use Rattle.instance_nodes.proofs.Counting.{wide_row, tells_wide}
 use Rattle.instance_nodes.proofs.first_wide.Goals as goal
 
 pub loop-e-init : goal.loop-e-init
 loop-e-init c = (omega arith, below_none _)
 
-pub overflow_cast-result : goal.overflow_cast-result
-overflow_cast-result c = omega (arith, c.loop-e-test.true, c.requires.0)
-
 pub returns-then-is_wide : goal.returns-then-is_wide
 returns-then-is_wide c = (
   said_yes (tells_wide c.args.instance.now c.loop-e.e c.requires.0 c.loop-e-test.true
-      c.requires.1 c.requires.2 c.kind.ensures c.word.ensures
-      c.word-in-loop-e.ensures c.is_wide.ensures) c.if-is_wide.true,
+      c.requires.1 c.requires.2 c.kind.ensures c.at.ensures
+      c.at-in-loop-e.ensures c.is_wide.ensures) c.if-is_wide.true,
   c.loop-e.invariant.1,
 )
-
-pub overflow_add-e : goal.overflow_add-e
-overflow_add-e c = omega (arith, c.loop-e-test.true, c.requires.0)
-
-pub loop-e-smaller : goal.loop-e-smaller
-loop-e-smaller c = omega (arith, c.loop-e-test.true)
 
 pub loop-e-preserved : goal.loop-e-preserved
 loop-e-preserved c = (
   omega (arith, c.loop-e-test.true),
   below_more _ _ c.loop-e.invariant.1 (said_no (tells_wide c.args.instance.now c.loop-e.e
       c.requires.0 c.loop-e-test.true c.requires.1 c.requires.2 c.kind.ensures
-      c.word.ensures c.word-in-loop-e.ensures c.is_wide.ensures) c.if-is_wide.false),
+      c.at.ensures c.at-in-loop-e.ensures c.is_wide.ensures) c.if-is_wide.false),
 )
 
 pub returns : goal.returns

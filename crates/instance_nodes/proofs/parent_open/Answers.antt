@@ -1,7 +1,7 @@
 -- The invariant: the parent of r is on the way up from where the walk began exactly if it is on the way up from e. Rows
 -- come after their parents, so that e falls and the walk ends at the parent or past it.
 use native.Mathlib.Omega.{arith}
-use Rattle.instance.proofs.Ancestors.{nearest_before, up_step, open_parent, closed_parent}
+use Rattle.instance.proofs.Ancestors.{told_by_eqb, nearest_before, up_step, open_parent, closed_parent}
 use Rattle.instance_nodes.proofs.parent_open.Goals as goal
 
 pub overflow_sub-r : goal.overflow_sub-r
@@ -26,15 +26,10 @@ loop-e-preserved c =
       λ u. step.2 (c.loop-e.invariant.2 u),
     )
 
-pub returns-then-e-p : goal.returns-then-e-p
-returns-then-e-p c =
-    open_parent c.requires.1 c.requires.0
-    c.parent-p.ensures c.nearest_element-e.ensures
-    c.loop-e.invariant.0 c.if-e-p.true c.loop-e.invariant.1
-
 pub returns : goal.returns
 returns c =
-    closed_parent c.requires.1
-    c.requires.0 c.parent-p.ensures
-    c.nearest_element-e.ensures c.loop-e.invariant.0
-    c.if-e-p.false c.loop-e-test.false c.loop-e.invariant.2
+    let inv = c.loop-e.invariant in
+    told_by_eqb _ _
+    (λ e. open_parent c.requires.1 c.requires.0 c.parent-p.ensures c.nearest_element-e.ensures inv.0 e inv.1)
+    (λ n. closed_parent c.requires.1 c.requires.0 c.parent-p.ensures
+    c.nearest_element-e.ensures inv.0 n c.loop-e-test.false inv.2)

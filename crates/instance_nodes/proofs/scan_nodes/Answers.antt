@@ -5,7 +5,8 @@ use Prim.Native.Nat.{ℕ}
 use native.Mathlib.Omega.{arith}
 use lib.ListN.{length, length-replicate}
 use borrow.Author.Count.{below_none, below_more}
-use Rattle.tables.proofs.Answers.{said_yes, said_no, finds_none}
+use Rattle.tables.proofs.Answers.{said_yes, said_no}
+use Rattle.tables.proofs.Checks.{finds_none}
 use Rattle.instance.specs.NodeRule.{max_nodes, bad_parent}
 use Rattle.instance.proofs.Order.{last_none}
 use Rattle.instance.proofs.Ancestors.{rooted_none, rooted_more}
@@ -14,18 +15,12 @@ use Rattle.instance_nodes.proofs.scan_nodes.Goals as goal
 pub loop-r-init : goal.loop-r-init
 loop-r-init c = (omega arith, below_none _, rooted_none _, last_none _ c.requires.1)
 
-pub overflow_cast-r : goal.overflow_cast-r
-overflow_cast-r c = omega (arith, c.loop-r-test.true, c.requires.0)
-
 pub wrong_node-requires : goal.wrong_node-requires
 wrong_node-requires c = (
   omega (arith, c.loop-r-test.true, c.requires.0),
   c.loop-r.invariant.2,
   c.loop-r.invariant.3,
 )
-
-pub overflow_cast-result : goal.overflow_cast-result
-overflow_cast-result c = omega (arith, c.loop-r-test.true, c.requires.0)
 
 pub shape_of-last-then-wrong_node : goal.shape_of-last-then-wrong_node
 shape_of-last-then-wrong_node c =
@@ -35,17 +30,8 @@ pub returns-then-wrong_node : goal.returns-then-wrong_node
 returns-then-wrong_node c =
     ((c.loop-r-test.true, said_yes c.wrong_node.ensures c.if-wrong_node.true), c.loop-r.invariant.1)
 
-pub overflow_cast-r-in-loop-r : goal.overflow_cast-r-in-loop-r
-overflow_cast-r-in-loop-r c = omega (arith, c.loop-r-test.true, c.requires.0)
-
 pub note_child-requires : goal.note_child-requires
 note_child-requires c = c.loop-r.invariant.3
-
-pub overflow_add-r : goal.overflow_add-r
-overflow_add-r c = omega (arith, c.loop-r-test.true, c.requires.0)
-
-pub loop-r-smaller : goal.loop-r-smaller
-loop-r-smaller c = omega (arith, c.loop-r-test.true)
 
 pub loop-r-preserved : goal.loop-r-preserved
 loop-r-preserved c =
