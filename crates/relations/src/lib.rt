@@ -28,9 +28,7 @@ pub fn clear(m: u32, w: &mut [u64])
     ensures is { Is (front m w.new) Empty }
     ensures rest { Rest m w.old w.new }
 {
-    let mut i = m as usize;
-    while i > 0 {
-        i -= 1;
+    for i in (0..m as usize).rev() {
         w[i] = 0;
     }
 }
@@ -53,9 +51,7 @@ pub fn gaps(m: u32, stop: u64, w: &mut [u64])
     ensures rest { Rest m w.old w.new }
 {
     let mut gap: u64 = 0;
-    let mut i = m;
-    while i > 0 {
-        i -= 1;
+    for i in (0..m).rev() {
         gap = gap_word(stop, i, gap);
         w[i as usize] = gap;
     }
@@ -83,9 +79,7 @@ pub fn singles(m: u32, all: u64, marked: u64, w: &mut [u64])
 {
     let mut gap: u64 = 0;
     let mut single: u64 = 0;
-    let mut i = m;
-    while i > 0 {
-        i -= 1;
+    for i in (0..m).rev() {
         single = single_word(all, marked, i, gap, single);
         gap = gap_word(all, i, gap);
         w[i as usize] = single;
@@ -98,9 +92,7 @@ pub fn union(m: u32, w: &mut [u64])
     ensures is { Is (front m w.new) (Or (WordsRelate (front m w.old)) (WordsRelate (next m w.old))) }
     ensures rest { Rest m w.old w.new }
 {
-    let mut i = m as usize;
-    while i > 0 {
-        i -= 1;
+    for i in (0..m as usize).rev() {
         w[i] = w[i] | w[sets::POSITIONS + i];
     }
 }
@@ -111,9 +103,7 @@ pub fn meet(m: u32, w: &mut [u64])
     ensures is { Is (front m w.new) (And (WordsRelate (front m w.old)) (WordsRelate (next m w.old))) }
     ensures rest { Rest m w.old w.new }
 {
-    let mut i = m as usize;
-    while i > 0 {
-        i -= 1;
+    for i in (0..m as usize).rev() {
         w[i] = w[i] & w[sets::POSITIONS + i];
     }
 }
@@ -124,10 +114,8 @@ pub fn compose(m: u32, w: &mut [u64])
     ensures is { Is (front m w.new) (Then (WordsRelate (front m w.old)) (WordsRelate (next m w.old))) }
     ensures rest { Rest m w.old w.new }
 {
-    let mut i = m as usize;
-    let end = sets::POSITIONS + i;
-    while i > 0 {
-        i -= 1;
+    let end = sets::POSITIONS + m as usize;
+    for i in (0..m as usize).rev() {
         let r = image(w[i], &w[sets::POSITIONS..end]);
         w[i] = r;
     }
@@ -141,9 +129,7 @@ pub fn close(m: u32, w: &mut [u64])
     ensures rest { Rest m w.old w.new }
 {
     let end = m as usize;
-    let mut i = end;
-    while i > 0 {
-        i -= 1;
+    for i in (0..end).rev() {
         let s = w[i];
         let r = image(s, &w[..end]);
         w[i] = s | r;

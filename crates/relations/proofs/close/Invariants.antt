@@ -6,6 +6,3 @@ use Rattle.relations.proofs.close.Given as goal
 
 abbrev pub invariant-loop-i : goal.invariant-loop-i
 invariant-loop-i l = WrittenWords l.m (Plus (WordsRelate (front l.m l.initial.w))) l.initial.w l.w l.i
-
-abbrev pub decreases-loop-i : goal.decreases-loop-i
-decreases-loop-i l = l.i

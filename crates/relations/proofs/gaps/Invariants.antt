@@ -5,6 +5,3 @@ use Rattle.relations.proofs.gaps.Given as goal
 
 abbrev pub invariant-loop-i : goal.invariant-loop-i
 invariant-loop-i l = WrittenWords l.m (Gap l.m l.stop) l.initial.w l.w l.i × Row (Gap l.m l.stop) l.i l.gap
-
-abbrev pub decreases-loop-i : goal.decreases-loop-i
-decreases-loop-i l = l.i

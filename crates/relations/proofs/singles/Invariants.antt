@@ -6,6 +6,3 @@ use Rattle.relations.proofs.singles.Given as goal
 abbrev pub invariant-loop-i : goal.invariant-loop-i
 invariant-loop-i l = WrittenWords l.m (Single l.m l.all l.marked) l.initial.w l.w l.i × Row (Gap l.m l.all) l.i l.gap
     × Row (Single l.m l.all l.marked) l.i l.single
-
-abbrev pub decreases-loop-i : goal.decreases-loop-i
-decreases-loop-i l = l.i
