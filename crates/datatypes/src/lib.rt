@@ -3,16 +3,9 @@
 
 ghost use Rattle.std.specs.Prelude.{◌≡◌};
 ghost use Rattle.datatypes.specs.Whitespace.{space, whitespace, string_equal, token_equal};
-ghost use Rattle.datatypes.specs.Cursor.{Skips, Reads, is_end};
+ghost use Rattle.datatypes.specs.Cursor.{Skips, Reads};
 ghost use Rattle.datatypes.specs.Split.{TokenTo};
 ghost use Rattle.tables.specs.Answers.{Decides};
-
-// The next character of a normalized text with the position after it, or its end.
-#[derive(Clone, Copy)]
-enum Step {
-    Byte(u8, usize),
-    End,
-}
 
 // Yes exactly for the whitespace characters #x20, #x9, #xA and #xD.
 #[tactic(auto, unfolding(crate::specs::Whitespace::space))]
@@ -27,14 +20,12 @@ pub fn is_space(c: u8) -> bool
 pub fn skip_space(s: &[u8], from: usize) -> usize
     ensures { Skips s.now from result }
 {
-    let mut i = from;
-    while i < s.len() {
+    for i in from..s.len() {
         if !is_space(s[i]) {
             return i;
         }
-        i += 1;
     }
-    i
+    from.max(s.len())
 }
 
 // The first position from a given one on where a whitespace character stands, or the end of the text: where a token
@@ -42,14 +33,12 @@ pub fn skip_space(s: &[u8], from: usize) -> usize
 pub fn token_end(s: &[u8], from: usize) -> usize
     ensures { TokenTo s.now from result }
 {
-    let mut to = from;
-    while to < s.len() {
+    for to in from..s.len() {
         if is_space(s[to]) {
             return to;
         }
-        to += 1;
     }
-    to
+    from.max(s.len())
 }
 
 // Yes exactly when every character of a text is whitespace; the empty text is whitespace too.
@@ -63,36 +52,27 @@ pub fn is_whitespace(s: &[u8]) -> bool
 pub fn same_string(a: &[u8], b: &[u8]) -> bool
     ensures { Decides (string_equal a.now b.now) result }
 {
-    tables::same_bytes(a, b)
+    a == b
 }
 
-// The next character of the normalized form of a text, from a position in it: a run of whitespace is one space, or none
-// at the end.
-fn next(s: &[u8], at: usize) -> Step
+// The next character of the normalized form of a text with the position after it, from a position in the text: a run of
+// whitespace is one space, or none at the end.
+fn next(s: &[u8], at: usize) -> Option<(u8, usize)>
     ensures { Reads s.now at result }
 {
     if s.len() <= at {
-        return Step::End;
+        return None;
     }
     let c = s[at];
     let after = at + 1;
     if !is_space(c) {
-        return Step::Byte(c, after);
+        return Some((c, after));
     }
     let after_run = skip_space(s, after);
     if after_run == s.len() {
-        return Step::End;
+        return None;
     }
-    Step::Byte(0x20, after_run)
-}
-
-fn ends(step: Step) -> bool
-    ensures { result ≡ is_end step }
-{
-    match step {
-        Step::Byte(_, _) => false,
-        Step::End => true,
-    }
+    Some((0x20, after_run))
 }
 
 // (token equal): yes exactly when the normalized forms of two texts are equal, which are compared as they are read.
@@ -104,10 +84,10 @@ pub fn same_token(a: &[u8], b: &[u8]) -> bool
     loop {
         let next_a = next(a, i);
         let next_b = next(b, j);
-        let Step::Byte(c, after_a) = next_a else {
-            return ends(next_b);
+        let Some((c, after_a)) = next_a else {
+            return next_b.is_none();
         };
-        let Step::Byte(d, after_b) = next_b else {
+        let Some((d, after_b)) = next_b else {
             return false;
         };
         if c != d {

@@ -10,25 +10,25 @@ loop-c-init c = remains_all _ _ _ _ c.skip_space-i.ensures.trimmed c.skip_space-
 
 pub returns-in_default : goal.returns-in_default
 returns-in_default c =
-    rw c.ends.ensures (remains_end c.loop-c.invariant c.next-next_b.result
-    c.in_default.is c.next-next_a.ensures c.next-next_b.ensures)
+    remains_end c.loop-c.invariant c.next-next_b.result c.is_none.result
+    c.in_default.is c.next-next_a.ensures c.next-next_b.ensures c.is_none.ensures
 
 pub returns-in_default-next_b : goal.returns-in_default-next_b
 returns-in_default-next_b c =
-    remains_longer c.loop-c.invariant c.in-Byte.is
+    remains_longer c.loop-c.invariant c.in-Some.is
     c.next-next_a.ensures c.in_default-next_b.is c.next-next_b.ensures
 
 pub returns-then-c-d : goal.returns-then-c-d
 returns-then-c-d c =
     remains_other c.loop-c.invariant
-    c.in-Byte.is c.next-next_a.ensures
-    c.in-Byte-next_b.is c.next-next_b.ensures c.if-c-d.true
+    c.in-Some.is c.next-next_a.ensures
+    c.in-Some-next_b.is c.next-next_b.ensures c.if-c-d.true
 
 pub loop-c-smaller : goal.loop-c-smaller
-loop-c-smaller c = omega (arith, rw c.in-Byte.is at c.next-next_a.ensures)
+loop-c-smaller c = omega (arith, rw c.in-Some.is at c.next-next_a.ensures)
 
 pub loop-c-preserved : goal.loop-c-preserved
 loop-c-preserved c =
     remains_next c.loop-c.invariant
-    c.in-Byte.is c.next-next_a.ensures
-    c.in-Byte-next_b.is c.next-next_b.ensures c.if-c-d.false
+    c.in-Some.is c.next-next_a.ensures
+    c.in-Some-next_b.is c.next-next_b.ensures c.if-c-d.false

@@ -2,7 +2,7 @@
 use mathlib.Core.Path.{refl, sym, ◌∙◌}
 use native.Mathlib.Nat.{le-max_left}
 use native.Mathlib.Omega.{arith}
-use Rattle.datatypes.proofs.Positions.{pass, stop, stop_end}
+use Rattle.datatypes.proofs.Positions.{search_end, pass, stop, stop_end}
 use Rattle.datatypes.proofs.skip_space.Goals as goal
 
 pub loop-i-init : goal.loop-i-init
@@ -19,4 +19,7 @@ loop-i-preserved c =
     (sym c.is_space.ensures ∙ c.if-not-is_space.false)
 
 pub returns : goal.returns
-returns c = stop_end c.loop-i.invariant (omega arith)
+returns c =
+    let passed = c.loop-i.invariant in
+    rw (c.max.ensures, ← search_end passed.onward passed.within c.loop-i-test.false)
+    (stop_end passed c.loop-i-test.false)

@@ -4,6 +4,7 @@ use native.Mathlib.Nat.{le-max_left, le-max_right}
 use native.Mathlib.Omega.{arith}
 use borrow.Author.Count.{below_more}
 use lib.ListN.{length}
+use Rattle.datatypes.proofs.Positions.{search_end}
 use Rattle.datatypes.proofs.token_end.Goals as goal
 
 pub loop-to-init : goal.loop-to-init
@@ -30,9 +31,10 @@ loop-to-preserved c =
 pub returns : goal.returns
 returns c =
     let passed = c.loop-to.invariant in
-    record {
+    rw (c.max.ensures, ← search_end passed.0 passed.1 c.loop-to-test.false)
+    (record {
       onward = passed.0;
       within = passed.1;
       unbroken = λ i h g. passed.2 i g h;
-      ended = λ h. absurd (omega arith);
-    }
+      ended = λ h. absurd (omega (arith, h, c.loop-to-test.false));
+    })

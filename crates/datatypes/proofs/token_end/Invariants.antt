@@ -1,5 +1,5 @@
 -- The invariant: no whitespace character stands at the positions passed.
-use Prim.Native.Nat.{ℕ, ◌-◌, ◌≤◌, ◌<◌, max}
+use Prim.Native.Nat.{ℕ, ◌≤◌, ◌<◌, max}
 use mathlib.Core.Path.{◌≡◌}
 use mathlib.Core.Bool.{false}
 use lib.ListN.{length, get_or}
@@ -9,6 +9,3 @@ use Rattle.datatypes.proofs.token_end.Given as goal
 abbrev pub invariant-loop-to : goal.invariant-loop-to
 invariant-loop-to l = (l.from ≤ l.to) × (l.to ≤ max l.from (length l.s))
     × ((i : ℕ) → i < l.to → l.from ≤ i → space (get_or l.s i 0) ≡ false)
-
-abbrev pub decreases-loop-to : goal.decreases-loop-to
-decreases-loop-to l = length l.s - l.to
