@@ -1,44 +1,38 @@
--- Laws of the room: a table without lists, one more row among the longest, the answer by thirds, and what is enough for
--- every instance.
-use Prim.Native.Nat.{ℕ, zero, suc, ◌+◌, ◌-◌, ◌*◌, ◌/◌, ◌≤◌, ◌<◌, max}
-use mathlib.Core.Path.{◌≡◌, refl, sym, ◌∙◌, ap}
+-- Laws of the room: the rows that can be lists, one more row among the longest, and what is enough for every instance.
+use Prim.Native.Nat.{ℕ, zero, suc, ◌+◌, ◌-◌, ◌*◌, ◌≤◌, ◌<◌, max}
+use mathlib.Core.Path.{◌≡◌, sym, ◌∙◌, ap}
 use mathlib.Core.Logic.{◌≢◌}
 use mathlib.Core.Bool.{Bool, true, false, cond}
 use mathlib.Core.List.{List}
 use native.Mathlib.Nat.{lt_of_not-le}
 use native.Mathlib.Numerals.{add-one}
 use native.Mathlib.Omega.{arith}
-use lib.Dec.{leb, eqb}
+use lib.Dec.{eqb}
 use lib.ListN.{length, take, drop, length-append, length-drop, take-append-drop, get_or-eq_default}
-use borrow.Author.Tests.{leb-true, leb-false}
-use Rattle.tables.specs.Answers.{Decides}
+use Rattle.std.specs.Ordering.{ord_max, nat_cmp}
+use Rattle.std.proofs.lemmas.Grind.{common_steps}
 use Rattle.tables.specs.Tables.{StringTable, Tables}
 use Rattle.strings.specs.Strings.{text_of, start_of, end_of, max_bytes}
 use Rattle.schema.specs.Kinds as kind
 use Rattle.schema.specs.Rows as row
 use Rattle.instance.specs.Nodes.{attribute, text, nodes_of, kind_of, a_of, c_of}
-use Rattle.matching_work.specs.Work.{HasList, value_length, longest_before, longest, WorkTooShort}
+use Rattle.matching_work.specs.Work.{value_length, longest_before, WorkTooShort}
 
 -- past the last word of the table no row has a kind
-pub no_list : (s : List ℕ) (n : ℕ) → length s ≤ n * 3 → ((p : ℕ) → p < n → row.kind_of s p ≢ kind.list) → ¬ HasList s
-no_list s n end none (p, e) = none p (lt_of_not-le (λ h. beyond (sym (get_or-eq_default s 0 (omega arith)) ∙ e))) e
+pub list_row : (s : List ℕ) (n : ℕ) → length s ≤ n * 3 → (p : ℕ) → row.kind_of s p ≡ kind.list → p < n
+list_row s n end p e = lt_of_not-le (λ h. beyond (sym (get_or-eq_default s 0 (omega arith)) ∙ e))
   where
     beyond : 0 ≢ kind.list
     beyond z = omega arith
+
+-- the larger of two numbers, as the order of numbers tells it
+pub larger : (m n : ℕ) → ord_max nat_cmp m n ≡ max m n
+larger m n = grind (arith, common_steps)
 
 pub longest_more : (J : Tables) (n : ℕ) {m v : ℕ} → m ≡ longest_before J n
     → v ≡ value_length J n → max m v ≡ longest_before J (n + 1)
 unfolding longest_before
 longest_more J n e f = rw (e, f, add-one)
-
--- fewer than three times m plus three are those of which a third is at most m
-pub room_by_thirds : (J : Tables) (room : ℕ) {m : ℕ} → HasList J.schema
-    → m ≡ longest J → Decides (WorkTooShort J room) (leb (room / 3) m)
-room_by_thirds J room {m} list e = go (leb (room / 3) m) refl
-  where
-    go : (t : Bool) → leb (room / 3) m ≡ t → Decides (WorkTooShort J room) t
-    go true h = (list, omega (arith, leb-true (room / 3) m h, e))
-    go false h = λ short. omega (arith, leb-false (room / 3) m h, e, short.1)
 
 -- no text is longer than the bytes of the table
 taken_within : (n : ℕ) (l : List ℕ) → length (take n l) ≤ length l

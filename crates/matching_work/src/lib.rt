@@ -2,7 +2,8 @@
 #![tactic(auto)]
 
 ghost use Rattle.std.specs.Prelude.{◌≡◌, List, ℕ, ◌≤◌, max, length};
-ghost use Rattle.tables.specs.Answers.{Decides, Finds};
+ghost use Rattle.tables.specs.Answers.{Decides};
+ghost use Rattle.tables.specs.Checks.{Finds};
 ghost use Rattle.tables.specs.Tables.{string_table, tables_of};
 ghost use Rattle.strings.specs.Strings.{text_of};
 ghost use Rattle.schema.specs.Rows.{rows_of};
@@ -11,21 +12,13 @@ ghost use Rattle.instance.specs.Nodes.{nodes_of};
 ghost use Rattle.instance.specs.NodeRule.{max_nodes};
 ghost use Rattle.matching_work.specs.Work.{HasList, value_length, longest, WorkTooShort, WorkFault};
 
-use tables::Checked;
-
 // Whether a row is a list. A last row that lacks fields has a kind too.
 fn has_list(schema: &[u32]) -> bool
     requires { rows_of schema.now ≤ max_rows }
     ensures { Decides (HasList schema.now) result }
 {
-    let mut row: u32 = 0;
-    while row as usize * 3 < schema.len() {
-        if schema::kind(schema, row) == schema::LIST {
-            return true;
-        }
-        row += 1;
-    }
-    false
+    let rows = schema.len().div_ceil(3) as u32;
+    (0..rows).any(|row| schema::kind(schema, row) == schema::LIST)
 }
 
 // The length of string k, whatever the ends are.
@@ -46,23 +39,15 @@ fn value_length(bytes: &[u8], ends: &[u32], instance: &[u32], row: u32) -> usize
     }
 }
 
-fn larger(m: usize, n: usize) -> usize
-    ensures { result ≡ max m n }
-{
-    if m < n { n } else { m }
-}
-
 // How long the longest attribute value or text of the instance is, whatever the schema is; 0 where it has neither.
 fn longest(bytes: &[u8], ends: &[u32], instance: &[u32]) -> usize
     requires { nodes_of instance.now ≤ max_nodes }
     ensures { (s : List ℕ) → result ≡ longest (tables_of (string_table bytes.now ends.now) s instance.now) }
 {
     let nodes = instance.len() / 5;
-    let mut most: usize = 0;
-    let mut row: u32 = 0;
-    while (row as usize) < nodes {
-        most = larger(most, value_length(bytes, ends, instance, row));
-        row += 1;
+    let mut most = 0;
+    for row in 0..nodes as u32 {
+        most = most.max(value_length(bytes, ends, instance, row));
     }
     most
 }
@@ -73,10 +58,7 @@ fn is_short(bytes: &[u8], ends: &[u32], schema: &[u32], instance: &[u32], lent: 
     requires { (rows_of schema.now ≤ max_rows) × (nodes_of instance.now ≤ max_nodes) }
     ensures { Decides (WorkTooShort (tables_of (string_table bytes.now ends.now) schema.now instance.now) lent) result }
 {
-    if !has_list(schema) {
-        return false;
-    }
-    lent / 3 <= longest(bytes, ends, instance)
+    has_list(schema) && lent / 3 <= longest(bytes, ends, instance)
 }
 
 // Code 12 for the work buffer: a fault, at 0, exactly when the schema has a list and fewer bytes are lent than 3 n + 3,
@@ -88,12 +70,12 @@ pub fn check_work(
     schema: &[u32],
     instance: &[u32],
     lent: usize,
-) -> Checked
+) -> Result<(), u32>
     requires { (rows_of schema.now ≤ max_rows) × (nodes_of instance.now ≤ max_nodes) }
     ensures { Finds (WorkFault (tables_of (string_table bytes.now ends.now) schema.now instance.now) lent) result }
 {
     if is_short(bytes, ends, schema, instance, lent) {
-        return Checked::Fault(0);
+        return Err(0);
     }
-    Checked::Fine
+    Ok(())
 }

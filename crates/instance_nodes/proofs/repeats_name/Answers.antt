@@ -14,7 +14,8 @@ returns c =
     let a = c.args in
     let told = cases_from_any _ _ c.any.result (λ (q : ℕ). Twin a.instance.now a.p q a.r)
     (λ (q : ℕ). ¬ Twin a.instance.now a.p q a.r) c.any.ensures.ran
-    (YieldsList-from_range (a.p + 1) a.r (a.r - (a.p + 1)) refl refl) (λ x q k. search (rules, said_yes)) (λ x q k. search (rules, said_no)) in
+    (YieldsList-from_range (a.p + 1) a.r (a.r - (a.p + 1)) refl refl)
+    (λ x q k. search (rules, said_yes)) (λ x q k. search (rules, said_no)) in
     decides_same c.any.result (λ f. repeats f.0 (omega (arith, f.1)) f.2 f.3) row
     (any_in_range (λ (q : ℕ). Twin a.instance.now a.p q a.r) (a.p + 1) a.r c.any.result told)
   where

@@ -12,4 +12,5 @@ returns-then-kind-eq-ELEMENT c =
 
 pub returns-else-kind-eq-ELEMENT : goal.returns-else-kind-eq-ELEMENT
 returns-else-kind-eq-ELEMENT c =
-    rw (ne_eqb _ _ c.if-kind-eq-ELEMENT.false) (λ right. c.if-kind-eq-ELEMENT.false (c.kind.ensures ∙ (root_told _ right).0))
+    rw (ne_eqb _ _ c.if-kind-eq-ELEMENT.false)
+    (λ right. c.if-kind-eq-ELEMENT.false (c.kind.ensures ∙ (root_told _ right).0))
