@@ -5,7 +5,8 @@
 ghost use Rattle.std.specs.Prelude.{◌≡◌, cond, ◌+◌, ◌≤◌, ◌<◌, length, set, drop};
 ghost use Rattle.tables.specs.Checks.{Finds};
 ghost use Rattle.schema.specs.Kinds.{no_row};
-ghost use Rattle.schema.specs.Rows.{rows_of, kind_of, a_of, b_of, shape, shape_of, sort_of, names, child_a, child_b, is_class};
+ghost use Rattle.schema.specs.Rows.{rows_of, kind_of, a_of, b_of, shape, shape_of, sort_of, is_class};
+ghost use Rattle.schema.specs.Rows.{names, child_a, child_b};
 ghost use Rattle.schema.specs.RowRule.{max_rows, field_right, SizeFault};
 ghost use Rattle.schema.specs.Definitions.{is_definition, Definitions};
 ghost use Rattle.schema.specs.Marks.{mark_if, children_marked};

@@ -1,5 +1,5 @@
 -- From the searches to the codes: the first of two faults, and the faults of codes 4 and 5 by what each search finds.
-use Prim.Native.Nat.{ℕ}
+use Prim.Native.Nat.{ℕ, min}
 use mathlib.Core.Path.{◌≡◌, refl}
 use mathlib.Core.Bool.{Bool, true, false}
 use mathlib.Core.Logic.{◌⊎◌, inl, inr, ⊎_elim}
@@ -7,10 +7,9 @@ use mathlib.Core.List.{List}
 use native.Mathlib.Omega.{arith}
 use lib.Dec.{leb}
 use borrow.Author.Tests.{leb-true, leb-false, eqb-true, eq-eqb}
-use Rattle.tables.specs.Answers.{Finds}
-use Rattle.tables.specs.declared.Checked.{Checked}
-use Rattle.tables.specs.declared.Checked.TheVariants.{Fine, Fault}
-use Rattle.tables.proofs.Answers.{finds_same}
+use Rattle.std.specs.Prelude.{Result, Ok, Err}
+use Rattle.tables.specs.Checks.{Finds}
+use Rattle.tables.proofs.Checks.{finds_same}
 use Rattle.tables.proofs.Booleans.{or_either}
 use Rattle.schema.specs.Kinds as kind
 use Rattle.schema_places.specs.Marks.{MarksExactly, Under}
@@ -28,22 +27,29 @@ abbrev pub Either : (ℕ → Type 0) → (ℕ → Type 0) → ℕ → Type 0
 Either P Q r = P r ⊎ Q r
 
 module _ (P Q : ℕ → Type 0) where
-  finds_either : (a b : Checked) → Finds P a → Finds Q b → Finds (Either P Q) (earliest a b)
-  finds_either Fine Fine f g = λ r. ⊎_elim (f r) (g r)
-  finds_either Fine (Fault y) f g = (inr g.0, λ r h. ⊎_elim (f r) (g.1 r h))
-  finds_either (Fault x) Fine f g = (inl f.0, λ r h. ⊎_elim (f.1 r h) (g r))
-  finds_either (Fault x) (Fault y) f g = go (leb x y) refl
+  finds_either : (a b : Result Unit ℕ) → Finds P a → Finds Q b → Finds (Either P Q) (earliest a b)
+  finds_either (Ok t) (Ok u) f g = λ r. ⊎_elim (f r) (g r)
+  finds_either (Ok t) (Err y) f g = (inr g.0, λ r h. ⊎_elim (f r) (g.1 r h))
+  finds_either (Err x) (Ok u) f g = (inl f.0, λ r h. ⊎_elim (f.1 r h) (g r))
+  finds_either (Err x) (Err y) f g = go (leb x y) refl
     where
-      go : (b : Bool) → leb x y ≡ b → Finds (Either P Q) (earliest (Fault x) (Fault y))
-      go true e = rw e (inl f.0, λ r h. ⊎_elim (f.1 r h) (g.1 r (omega (arith, leb-true x y e))))
-      go false e = rw e (inr g.0, λ r h. ⊎_elim (f.1 r (omega (arith, leb-false x y e))) (g.1 r h))
+      go : (b : Bool) → leb x y ≡ b → Finds (Either P Q) (earliest (Err x) (Err y))
+      go true e =
+          let l = leb-true x y e in
+          let m : min x y ≡ x = omega arith in
+          rw m (inl f.0, λ r h. ⊎_elim (f.1 r h) (g.1 r (omega arith)))
+      go false e =
+          let l = leb-false x y e in
+          let m : min x y ≡ y = omega arith in
+          rw m (inr g.0, λ r h. ⊎_elim (f.1 r (omega arith)) (g.1 r h))
 
-  pub finds_earliest : (a b : Checked) {r : Checked} → r ≡ earliest a b → Finds P a → Finds Q b → Finds (Either P Q) r
+  pub finds_earliest : (a b : Result Unit ℕ) {r : Result Unit ℕ} → r ≡ earliest a b → Finds P a → Finds Q b
+      → Finds (Either P Q) r
   finds_earliest a b e f g = rw e (finds_either a b f g)
 
 -- the search of a table that marks the rows below S
 module _ {s : List ℕ} {S : ℕ → Type 0} {t : List ℕ} (prohibition : Prohibition) where
-  pub finds_below : (c : Checked) → MarksExactly (Under s S) t
+  pub finds_below : (c : Result Unit ℕ) → MarksExactly (Under s S) t
       → Finds (MarkedKind s t prohibition) c → Finds (Prohibited s S prohibition) c
   finds_below c m =
       finds_same c

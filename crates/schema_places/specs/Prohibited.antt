@@ -1,7 +1,5 @@
 -- The kinds that are prohibited at a row, and the first of two faults; cited by private functions only.
-use Rattle.std.specs.Prelude.{ℕ, ◌≡◌, Bool, true, cond, ◌||◌, List, leb, eqb}
-use Rattle.tables.specs.declared.Checked.{Checked}
-use Rattle.tables.specs.declared.Checked.TheVariants.{Fine, Fault}
+use Rattle.std.specs.Prelude.{ℕ, min, ◌≡◌, Bool, true, ◌||◌, List, eqb, Result, Ok, Err}
 use Rattle.schema.specs.Kinds as kind
 use Rattle.schema.specs.Rows.{kind_of}
 use Rattle.schema.specs.Marks.{Marked}
@@ -38,7 +36,7 @@ pub record RepeatedSharing (s : List ℕ) (p : ℕ) : Type 0 where
   pub sharing : sharing_kind (kind_of s p) ≡ true
   pub repeated : Under s (HasKind s kind.one_or_more) p
 
-abbrev pub earliest : Checked → Checked → Checked
-earliest Fine b = b
-earliest (Fault x) Fine = Fault x
-earliest (Fault x) (Fault y) = cond (leb x y) (Fault x) (Fault y)
+abbrev pub earliest : Result Unit ℕ → Result Unit ℕ → Result Unit ℕ
+earliest (Ok _) b = b
+earliest (Err x) (Ok _) = Err x
+earliest (Err x) (Err y) = Err (min x y)

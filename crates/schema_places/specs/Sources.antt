@@ -4,7 +4,7 @@ use Rattle.schema.specs.Rows.{kind_of}
 use Rattle.schema.specs.Marks.{Marked}
 use Rattle.schema_places.specs.Paths.{sharing_kind}
 use Rattle.schema_places.specs.declared.Source.{Source}
-use Rattle.schema_places.specs.declared.Source.TheVariants.{OfKind, MarkedSharing}
+use Rattle.schema_places.specs.declared.Source.TheVariants as source
 
 abbrev pub HasKind : List ℕ → ℕ → ℕ → Type 0
 HasKind s k p = kind_of s p ≡ k
@@ -14,10 +14,10 @@ pub record SharingIn (s t : List ℕ) (p : ℕ) : Type 0 where
   pub sharing : sharing_kind (kind_of s p) ≡ true
   pub mark : Marked t p
 
-abbrev pub IsSource : List ℕ → Source → List ℕ → ℕ → Type 0
-IsSource s (OfKind k) t p = HasKind s k p
-IsSource s MarkedSharing t p = SharingIn s t p
+abbrev pub IsSource : List ℕ → Source → ℕ → Type 0
+IsSource s (source.OfKind k) p = HasKind s k p
+IsSource s (source.SharingIn t) p = SharingIn s t.now p
 
 -- the marks of below pass on to the children of p
-abbrev pub MarksChildren : List ℕ → Source → List ℕ → List ℕ → ℕ → Type 0
-MarksChildren s source t below p = IsSource s source t p ⊎ Marked below p
+abbrev pub MarksChildren : List ℕ → Source → List ℕ → ℕ → Type 0
+MarksChildren s source below p = IsSource s source p ⊎ Marked below p

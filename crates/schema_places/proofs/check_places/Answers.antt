@@ -1,16 +1,11 @@
--- A wrong size, or what is found in a table of the right size.
-use Rattle.tables.proofs.Answers.{found_none}
+-- What is found in a table of the right size.
+use Rattle.tables.proofs.Checks.{found_none}
 use Rattle.schema.proofs.RowLaws.{few_rows}
-use Rattle.schema.proofs.Sizes.{sized_stop, sized_on}
+use Rattle.schema.proofs.Sizes.{sized_on}
 use Rattle.schema_places.proofs.check_places.Goals as goal
 
-pub returns-in_default : goal.returns-in_default
-returns-in_default c = sized_stop _ _ c.check_size-size.ensures c.in_default.is
-
 pub first_misplaced-requires : goal.first_misplaced-requires
-first_misplaced-requires c = few_rows (found_none _ c.check_size-size.ensures c.in-Fine.is)
+first_misplaced-requires c = few_rows (found_none _ c.check_size.ensures c.in_ok-check_size.was)
 
 pub returns : goal.returns
-returns c =
-    sized_on _ _ c.check_size-size.ensures
-    c.in-Fine.is c.first_misplaced.result c.first_misplaced.ensures
+returns c = sized_on _ _ c.check_size.ensures c.in_ok-check_size.was c.first_misplaced.result c.first_misplaced.ensures

@@ -1,6 +1,6 @@
 -- The marked rows are the faults of code 3, whatever their kinds.
 use mathlib.Core.Path.{refl}
-use Rattle.tables.proofs.Answers.{finds_same}
+use Rattle.tables.proofs.Checks.{finds_same}
 use Rattle.schema_places.proofs.first_misplaced.Goals as goal
 
 pub returns : goal.returns

@@ -1,5 +1,5 @@
 -- Code 4 is what may not stand below an anyName, and what may not stand below an nsName.
-use Rattle.tables.proofs.Answers.{finds_same}
+use Rattle.tables.proofs.Checks.{finds_same}
 use Rattle.schema_places.proofs.Faults.{finds_earliest, name_fault, fault_name}
 use Rattle.schema_places.proofs.first_name.Goals as goal
 

@@ -1,5 +1,5 @@
 -- Code 5 is what may not stand below an attribute, a group or interleave in a oneOrMore, a list, a data, and the start.
-use Rattle.tables.proofs.Answers.{finds_same}
+use Rattle.tables.proofs.Checks.{finds_same}
 use Rattle.schema_places.proofs.Faults.{finds_earliest, path_fault, fault_path}
 use Rattle.schema_places.proofs.first_prohibited.Goals as goal
 
