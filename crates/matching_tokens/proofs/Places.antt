@@ -1,14 +1,17 @@
 -- Where the one token of a text stands, and what a token is compared with.
 use Prim.Native.Nat.{ℕ, zero, suc, ◌+◌, ◌-◌, ◌*◌, ◌≤◌, ◌<◌}
 use mathlib.Core.Path.{◌≡◌, refl, sym, ◌∙◌, ap}
-use mathlib.Core.Bool.{Bool}
+use mathlib.Core.Bool.{Bool, true, false}
 use mathlib.Core.Logic.{◌≢◌}
 use mathlib.Core.List.{List, [], ◌∷◌, nil≢cons, cons≢nil}
 use native.Mathlib.Decide.{dec_lt, ℕ_discrete}
 use native.Mathlib.Nat.{le_trans, max-le, le_refl, min-le_right}
 use native.Mathlib.Omega.{arith}
 use lib.ListN.{length, drop, get_or, set, length-set, length-take, length-drop, drop_of_length-le, get_or-eq_default}
+use lib.Dec.{eqb}
+use lib.Pointwise.{pointwise}
 use lib.Seq.{get_or-set_same, get_or-set_other}
+use Rattle.std.specs.Cmp.Lexicographic.{same_text, other_text}
 use Rattle.tables.specs.Answers.{Decides}
 use Rattle.tables.specs.Place.{between}
 use Rattle.tables.specs.Tables.{StringTable}
@@ -115,6 +118,11 @@ placed_all T places all k = go (dec_lt k (length T.ends))
         ≡ [] = between_reversed T.bytes (start_of T.ends k) (end_of T.ends k) (omega arith) in
         rw none (none_told [] (get_or places (k * 2) 0) (get_or places (k * 2 + 1) 0)
         (between_beyond [] (get_or places (k * 2) 0) (get_or places (k * 2 + 1) 0) (omega arith)) (λ t f. nil≢cons f))
+
+-- the answer of `==` on two texts
+pub texts_told : (a b : List ℕ) (r : Bool) → r ≡ pointwise eqb a b → Decides (a ≡ b) r
+texts_told a b true e = same_text a b e
+texts_told a b false e = other_text a b e
 
 -- one value by the number of the datatype
 pub by_string : (d : ℕ) (t v : List ℕ) (r : Bool) → d ≡ 0 → Decides (t ≡ v) r → Decides (datatype_equal d t v) r

@@ -14,25 +14,20 @@ ghost use Rattle.matching_tokens.specs.MarkTable.{TokenReady, PlainAt, mark, mar
 ghost use Rattle.matching_tokens.specs.Tokens.{OneToken, TokenPlaces, PlaceRoom, DecidesAt};
 ghost use Rattle.matching_tokens.specs.Tokens.{NothingUpTo, ListReady, TokensMatch};
 
-// Where a part of a text begins and ends.
-#[derive(Clone, Copy)]
-struct Stretch {
-    from: usize,
-    to: usize,
-}
+use std::ops::Range;
 
-// Where the one token of a text stands; an empty stretch where there is none, or more than one.
-fn one_token(text: &[u8]) -> Stretch
+// Where the one token of a text stands; an empty range where there is none, or more than one.
+fn one_token(text: &[u8]) -> Range<usize>
     requires { length text.now ≤ max_bytes }
-    ensures { OneToken text.now result.from result.to × (result.from ≤ max_bytes) × (result.to ≤ max_bytes) }
+    ensures { OneToken text.now result.start result.end × (result.start ≤ max_bytes) × (result.end ≤ max_bytes) }
 {
     let from = datatypes::skip_space(text, 0);
     let to = datatypes::token_end(text, from);
     let next = datatypes::skip_space(text, to);
     if next < text.len() {
-        return Stretch { from: 0, to: 0 };
+        return 0..0;
     }
-    Stretch { from, to }
+    from..to
 }
 
 // For each string, at two words of places, a part of its text that is a token exactly where that is the one token of
@@ -42,12 +37,10 @@ pub fn find_tokens(bytes: &[u8], ends: &[u32], places: &mut [u32])
     requires { PlaceRoom (string_table bytes.now ends.now) places.old }
     ensures { TokenPlaces (string_table bytes.now ends.now) places.new }
 {
-    let mut k: usize = 0;
-    while k < ends.len() {
+    for k in 0..ends.len() {
         let one = one_token(strings::text(bytes, ends, k));
-        places[k * 2] = one.from as u32;
-        places[k * 2 + 1] = one.to as u32;
-        k += 1;
+        places[k * 2] = one.start as u32;
+        places[k * 2 + 1] = one.end as u32;
     }
 }
 
@@ -67,11 +60,11 @@ fn same_value(
     let at = v as usize;
     let own = strings::text(bytes, ends, at);
     if datatype == 0 {
-        return tables::same_bytes(token, own);
+        return token == own;
     }
-    let from = tables::word(places, at * 2) as usize;
-    let to = tables::word(places, at * 2 + 1) as usize;
-    tables::same_bytes(tables::part(own, from, to), token)
+    let from = tables::at(places, at * 2) as usize;
+    let to = tables::at(places, at * 2 + 1) as usize;
+    tables::part(own, from, to) == token
 }
 
 // Whether a token alone matches the plain pattern at a row.
@@ -84,18 +77,11 @@ fn fits(bytes: &[u8], ends: &[u32], schema: &[u32], places: &[u32], p: u32, toke
     let a = schema::field_a(schema, p);
     let b = schema::field_b(schema, p);
     match kind {
-        schema::DATA => {
-            if b == schema::NO_ROW {
-                return true;
-            }
-            !fits(bytes, ends, schema, places, b, token)
-        }
+        schema::DATA => b == schema::NO_ROW || !fits(bytes, ends, schema, places, b, token),
         schema::VALUE => same_value(bytes, ends, places, a, b, token),
         schema::CHOICE => {
-            if fits(bytes, ends, schema, places, a, token) {
-                return true;
-            }
-            fits(bytes, ends, schema, places, b, token)
+            fits(bytes, ends, schema, places, a, token)
+                || fits(bytes, ends, schema, places, b, token)
         }
         _ => false,
     }
@@ -104,29 +90,20 @@ fn fits(bytes: &[u8], ends: &[u32], schema: &[u32], places: &[u32], p: u32, toke
 fn is_marked(marks: &[u8], p: u32) -> bool
     ensures { result ≡ marked marks.now p }
 {
-    tables::byte(marks, p as usize) == 1
+    tables::at(marks, p as usize) == 1
 }
 
 fn put(marks: &mut [u8], p: u32, done: bool)
     ensures { marks.new ≡ set marks.old p (mark done) }
 {
-    if done {
-        tables::put_u8(marks, p as usize, 1);
-        return;
-    }
-    tables::put_u8(marks, p as usize, 0);
+    tables::put(marks, p as usize, u8::from(done));
 }
 
 // Whether a way in is open: the first where it is free, or the other.
 fn both_or(first: bool, free: bool, other: bool) -> bool
     ensures { result ≡ (first && free || other) }
 {
-    if first {
-        if free {
-            return true;
-        }
-    }
-    other
+    first && free || other
 }
 
 // A data or value takes the token where it is entered.
@@ -145,13 +122,9 @@ fn leaf(
     ensures { LeafSteps (string_table bytes.now ends.now) schema.now p enter token.now
         marks.old marks.new result }
 {
-    if enter {
-        let done = fits(bytes, ends, schema, places, p, token);
-        put(marks, p, done);
-        return done;
-    }
-    put(marks, p, false);
-    false
+    let taken = enter && fits(bytes, ends, schema, places, p, token);
+    put(marks, p, taken);
+    taken
 }
 
 // The two parts of a row: the second is entered where onward says so. The row is completed where the second part is,

@@ -4,6 +4,7 @@ use mathlib.Core.Path.{◌≡◌, sym, ◌∙◌, subst}
 use mathlib.Core.List.{[], ◌∷◌}
 use mathlib.Core.Logic.{◌≢◌}
 use native.Mathlib.Omega.{arith}
+use borrow.Author.Tests.{eq-eqb}
 use Rattle.tables.specs.Answers.{Decides}
 use Rattle.tables.specs.Tables.{string_table}
 use Rattle.strings.specs.Strings.{text_of}
@@ -21,9 +22,9 @@ use Rattle.matching_tokens.proofs.+fits.Goals as goal
 pub returns-then-b : goal.returns-then-b
 returns-then-b t c =
     let a = c.args in
-    fits_all (string_table a.bytes.now a.ends.now) a.schema.now a.p a.token.now
+    rw (eq-eqb _ _ c.if-b.true) (fits_all (string_table a.bytes.now a.ends.now) a.schema.now a.p a.token.now
     (sym c.kind-kind.ensures ∙ c.in-4.is)
-    (sym c.field_b-b.ensures ∙ c.if-b.true)
+    (sym c.field_b-b.ensures ∙ c.if-b.true))
 
 pub fits-requires : goal.fits-requires
 fits-requires t c =
@@ -61,12 +62,12 @@ returns-then-fits t c =
     let T = string_table a.bytes.now a.ends.now in
     let s = a.schema.now in
     let f = c.fits-in-10 in
-    fits_first T s a.p a.token.now (sym c.kind-kind.ensures ∙ c.in-10.is)
+    rw c.if-fits.true (fits_first T s a.p a.token.now (sym c.kind-kind.ensures ∙ c.in-10.is)
     (subst (λ (q : ℕ). DecidesAt T s q (string a.token.now ∷ []) f.result)
-    c.field_a-a.ensures f.ensures) c.if-fits.true
+    c.field_a-a.ensures f.ensures) c.if-fits.true)
 
-pub fits-requires-in-10-2 : goal.fits-requires-in-10-2
-fits-requires-in-10-2 t c =
+pub fits-requires-else-fits : goal.fits-requires-else-fits
+fits-requires-else-fits t c =
     let a = c.args in
     let T = string_table a.bytes.now a.ends.now in
     let s = a.schema.now in
@@ -109,8 +110,8 @@ returns-else-fits t c =
     fits_second T s a.p a.token.now (sym c.kind-kind.ensures ∙ c.in-10.is)
     (subst (λ (q : ℕ). DecidesAt T s q (string a.token.now ∷ []) f.result)
     c.field_a-a.ensures f.ensures) c.if-fits.false
-    c.fits-in-10-2.result (subst (λ (q : ℕ). DecidesAt T s q (string a.token.now ∷ []) c.fits-in-10-2.result)
-    c.field_b-b.ensures c.fits-in-10-2.ensures)
+    c.fits-else-fits.result (subst (λ (q : ℕ). DecidesAt T s q (string a.token.now ∷ []) c.fits-else-fits.result)
+    c.field_b-b.ensures c.fits-else-fits.ensures)
 
 pub returns-in_default : goal.returns-in_default
 returns-in_default t c =
