@@ -19,8 +19,8 @@ use Rattle.schema.specs.Rows.{rows_of, kind_of, a_of, b_of}
 use Rattle.schema_classes.specs.Membership.{holds, in_class}
 use Rattle.schema_classes.specs.Least.{Common, NotAfter, LeastCommon}
 use Rattle.schema_classes.specs.Search.{OneMentions, ToldApart, SmallerToldApart, LeastBeside}
-use Rattle.schema_classes.specs.declared.Found.{Found}
-use Rattle.schema_classes.specs.declared.Found.TheVariants.{Name, Nothing}
+use Rattle.std.specs.Prelude.{Option, Some, None}
+use Rattle.schema_classes.specs.declared.Name.{Name}
 use Rattle.schema_classes.specs.declared.Part.TheVariants.{Namespace}
 use Rattle.schema_classes.proofs.ClassRows.{class_held}
 use Rattle.schema_classes.proofs.Holds.{step, Read, holds_name, holds_ns_name}
@@ -87,20 +87,20 @@ ns_namespace s c rows {a} e k u l h = eqb-true u a (and_both (eqb u a) (not (upt
         ∙ (and_both (ltb 0 l) (holds s u l c) h).1
 
 module _ (s : List ℕ) (c d a : ℕ) where
-  pub one_least : ((u l : ℕ) → Common s c d u l → u ≡ a) → (r : Found) → LeastBeside s c d a r → LeastCommon s c d r
-  one_least one (Name u l) (e, h, clear) = (
+  pub one_least : ((u l : ℕ) → Common s c d u l → u ≡ a) → (r : Option Name) → LeastBeside s c d a r → LeastCommon s c d r
+  one_least one (Some n) (e, h, clear) = (
     rw e h,
     λ v k x. inr (e ∙ sym (one v k x), not_less (λ i. clear k i (rw (one v k x) at x))),
   )
-  one_least one Nothing t = λ u l x. t l (rw (one u l x) at x)
+  one_least one None t = λ u l x. t l (rw (one u l x) at x)
 
 -- the namespaces passed have no common name, and what is found in the next is the least in it
-pub found_least : {s : List ℕ} → rows_of s ≤ max_rows → (c d : ℕ) {n u l : ℕ}
+pub found_least : {s : List ℕ} → rows_of s ≤ max_rows → (c d : ℕ) {n : ℕ} {r : Name}
     → Passed (OneMentions s c d Namespace) 0 (λ v. (k : ℕ) × Common s c d v k) n
-    → LeastBeside s c d n (Name u l) → LeastCommon s c d (Name u l)
-found_least {s} rows c d {n} {u} {l} a (e, h, clear) = (rw e h, λ v k x. go v k x (dec_lt v n) (ℕ_discrete v n))
+    → LeastBeside s c d n (Some r) → LeastCommon s c d (Some r)
+found_least {s} rows c d {n} {r} a (e, h, clear) = (rw e h, λ v k x. go v k x (dec_lt v n) (ℕ_discrete v n))
   where
-    go : (v k : ℕ) → Common s c d v k → Dec (v < n) → Dec (v ≡ n) → NotAfter u l v k
+    go : (v k : ℕ) → Common s c d v k → Dec (v < n) → Dec (v ≡ n) → NotAfter r.namespace r.local v k
     go v k x (yes i) f = absurd (passed_clear a (namespace_stands rows c d) v i (k, x))
     go v k x (no i) (yes f) = inr (e ∙ sym f, not_less (λ i. clear k i (rw f at x)))
     go v k x (no i) (no f) = inl (omega arith)

@@ -13,8 +13,8 @@ use Rattle.schema_classes.specs.Least.{Common, NotAfter, LeastCommon}
 use Rattle.schema_classes.specs.Made.{RowIn, Mentioned, HasNamespace, HasLocal}
 use Rattle.schema_classes.specs.Made.{KnownOrFresh, known, fresh, Made, LeastMade}
 use Rattle.schema_classes.specs.Search.{OneMentions, ToTry}
-use Rattle.schema_classes.specs.declared.Found.{Found}
-use Rattle.schema_classes.specs.declared.Found.TheVariants.{Name, Nothing}
+use Rattle.std.specs.Prelude.{Option, Some, None}
+use Rattle.schema_classes.specs.declared.Name.{Name}
 use Rattle.schema_classes.specs.declared.Part.TheVariants.{Namespace, LocalBeside}
 use Rattle.schema_classes.proofs.CommonNames.{common_positive, alike_by, common_alike}
 use Rattle.schema_classes.proofs.RowNumbers.{namespace_row, row_namespace, row_local, namespace_dec, local_dec}
@@ -71,28 +71,29 @@ module _ (s : List ℕ) (c d : ℕ) (rows : rows_of s ≤ max_rows) where
           not_after (yes l) = inl l
           not_after (no l) = inr (omega (arith, x.most), y.most)
 
-  pub least_is_made : (r : Found) → LeastCommon s c d r → LeastMade s c d r
-  least_is_made (Name u l) (h, t) = (made (before h), h, λ v k m. t v k)
+  pub least_is_made : (r : Option Name) → LeastCommon s c d r → LeastMade s c d r
+  least_is_made (Some n) (h, t) = (made (before h), h, λ v k m. t v k)
     where
-      made : Before s c d u l → Made s c d u l
+      made : Before s c d n.namespace n.local → Made s c d n.namespace n.local
       made b = go b.low (t b.namespace b.local b.common)
         where
-          go : NotAfter b.namespace b.local u l → NotAfter u l b.namespace b.local → Made s c d u l
+          go : NotAfter b.namespace b.local n.namespace n.local → NotAfter n.namespace n.local b.namespace b.local
+              → Made s c d n.namespace n.local
           go (inl x) (inl y) = absurd (omega arith)
           go (inl x) (inr y) = absurd (omega arith)
           go (inr x) (inl y) = absurd (omega arith)
           go (inr x) (inr y) =
-              let e : b.namespace ≡ u = omega arith in
-              let f : b.local ≡ l = omega arith in
+              let e : b.namespace ≡ n.namespace = omega arith in
+              let f : b.local ≡ n.local = omega arith in
               rw (e, f) at b.made
-  least_is_made Nothing t = λ u l m. t u l
+  least_is_made None t = λ u l m. t u l
 
-  pub made_is_least : (r : Found) → LeastMade s c d r → LeastCommon s c d r
-  made_is_least (Name u l) (m, h, t) = (h, λ v k x. first (before x))
+  pub made_is_least : (r : Option Name) → LeastMade s c d r → LeastCommon s c d r
+  made_is_least (Some n) (m, h, t) = (h, λ v k x. first (before x))
     where
-      first : {v k : ℕ} → Before s c d v k → NotAfter u l v k
+      first : {v k : ℕ} → Before s c d v k → NotAfter n.namespace n.local v k
       first b = not_after_trans (t b.namespace b.local b.made b.common) b.low
-  made_is_least Nothing t = λ u l h. none_made (before h)
+  made_is_least None t = λ u l h. none_made (before h)
     where
       none_made : {v k : ℕ} → Before s c d v k → ⊥
       none_made b = t b.namespace b.local b.made b.common

@@ -1,26 +1,25 @@
 -- The smallest row of two kinds of rows, and the row of a choice by those of its members.
-use Prim.Native.Nat.{ℕ, ◌≤◌, ◌<◌}
+use Prim.Native.Nat.{ℕ, ◌≤◌, ◌<◌, min}
 use mathlib.Core.Path.{◌≡◌, refl, sym, ◌∙◌}
-use mathlib.Core.Bool.{Bool, true, false, cond, ◌||◌}
+use mathlib.Core.Bool.{Bool, true, false, ◌||◌}
 use mathlib.Core.Logic.{◌⊎◌, ⊎_elim}
 use native.Mathlib.Decide.{dec_lt}
+use native.Mathlib.Nat.{min-eq_left, min-eq_right}
 use native.Mathlib.Omega.{arith}
-use lib.Dec.{ltb}
-use borrow.Author.Tests.{ltb-true, ltb-false}
 use Rattle.tables.specs.Answers.{Clear}
 use Rattle.schema.specs.Kinds as kind
-use Rattle.schema_classes.specs.Judging.{smaller_of, choice_of}
+use Rattle.schema_classes.specs.Judging.{choice_of}
 use Rattle.schema_classes.specs.WhichRow.{SmallestOrNone, smallest, without_row, RowBy, is_yes, row_of}
 use Rattle.schema_classes.specs.declared.Member.{Member}
 use Rattle.schema_classes.specs.declared.Member.TheVariants.{Yes, No}
 
 -- the smaller of two rows
-smaller_case : (A : ℕ → Type 0) (p q : ℕ) → (p ≤ q → A p) → (q ≤ p → A q) → A (smaller_of p q)
-smaller_case A p q f g = go (ltb q p) refl
+smaller_case : (A : ℕ → Type 0) (p q : ℕ) → (p ≤ q → A p) → (q ≤ p → A q) → A (min p q)
+smaller_case A p q f g = go (dec_lt q p)
   where
-    go : (b : Bool) → ltb q p ≡ b → A (cond b q p)
-    go true e = let h = ltb-true q p e in g (omega arith)
-    go false e = f (ltb-false q p e)
+    go : Dec (q < p) → A (min p q)
+    go (yes h) = let l : q ≤ p = omega arith in rw (min-eq_right l) (g l)
+    go (no h) = let l : p ≤ q = omega arith in rw (min-eq_left l) (f l)
 
 -- what has P is what has P₁ or P₂
 pub record Union (P P₁ P₂ : ℕ → Type 0) : Type 0 where
@@ -29,14 +28,14 @@ pub record Union (P P₁ P₂ : ℕ → Type 0) : Type 0 where
   pub split : (r : ℕ) → P r → P₁ r ⊎ P₂ r
 
 module _ {P P₁ P₂ : ℕ → Type 0} (both : Union P P₁ P₂) where
-  least_both : {p q : ℕ} → P₁ p × Clear P₁ p → P₂ q × Clear P₂ q → P (smaller_of p q) × Clear P (smaller_of p q)
+  least_both : {p q : ℕ} → P₁ p × Clear P₁ p → P₂ q × Clear P₂ q → P (min p q) × Clear P (min p q)
   least_both {p} {q} (a, c) (b, d) =
       smaller_case (λ r. P r × Clear P r) p q
       (λ h. (both.first p a, λ i l x. ⊎_elim (c i l) (d i (omega arith)) (both.split i x)))
       (λ h. (both.second q b, λ i l x. ⊎_elim (c i (omega arith)) (d i l) (both.split i x)))
 
   smallest_both : {p q : ℕ} → ((r : ℕ) → P₁ r → r < kind.no_row) → ((r : ℕ) → P₂ r → r < kind.no_row)
-      → SmallestOrNone P₁ p → SmallestOrNone P₂ q → SmallestOrNone P (smaller_of p q)
+      → SmallestOrNone P₁ p → SmallestOrNone P₂ q → SmallestOrNone P (min p q)
   smallest_both f g (smallest a c) (smallest b d) = let x = least_both (a, c) (b, d) in smallest x.0 x.1
   smallest_both {p} {q} f g (smallest a c) (without_row n e) =
       smaller_case (SmallestOrNone P) p q

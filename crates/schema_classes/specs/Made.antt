@@ -1,12 +1,11 @@
 -- The names made of the numbers that two classes mention, and of the least that neither does. Of these alone the least
 -- common name can be told (proofs/MadeNames).
-use Rattle.std.specs.Prelude.{ℕ, ◌≤◌, ◌<◌, ◌≡◌, true, ◌⊎◌, List}
+use Rattle.std.specs.Prelude.{ℕ, ◌≤◌, ◌<◌, ◌≡◌, true, ◌⊎◌, List, Option, Some, None}
 use Rattle.schema.specs.Kinds as kind
 use Rattle.schema.specs.Relations.{Child}
 use Rattle.schema.specs.Rows.{kind_of, a_of, b_of, sort_of, is_class}
 use Rattle.schema_classes.specs.Least.{Common, NotAfter}
-use Rattle.schema_classes.specs.declared.Found.{Found}
-use Rattle.schema_classes.specs.declared.Found.TheVariants.{Name, Nothing}
+use Rattle.schema_classes.specs.declared.Name.{Name}
 
 -- r is a row of the class c: c itself or a row below it, in its excepts too
 pub data RowIn (s : List ℕ) (r : ℕ) : ℕ → Type 0 where
@@ -48,7 +47,7 @@ pub record Made (s : List ℕ) (c d u l : ℕ) : Type 0 where
   pub local : KnownOrFresh (λ k. Mentioned s c d (HasLocal s k)) 1 l
 
 -- the least of the made names that both classes hold
-abbrev pub LeastMade : List ℕ → ℕ → ℕ → Found → Type 0
-LeastMade s c d (Name u l) =
-    Made s c d u l × Common s c d u l × ((v k : ℕ) → Made s c d v k → Common s c d v k → NotAfter u l v k)
-LeastMade s c d Nothing = (u l : ℕ) → Made s c d u l → ¬ Common s c d u l
+abbrev pub LeastMade : List ℕ → ℕ → ℕ → Option Name → Type 0
+LeastMade s c d (Some n) = Made s c d n.namespace n.local × Common s c d n.namespace n.local
+    × ((v k : ℕ) → Made s c d v k → Common s c d v k → NotAfter n.namespace n.local v k)
+LeastMade s c d None = (u l : ℕ) → Made s c d u l → ¬ Common s c d u l

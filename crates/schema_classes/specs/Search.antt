@@ -1,13 +1,12 @@
 -- The search for the least common name: the numbers to try are taken in rising order, each from what the two classes
 -- mention above the last. Cited by private functions only.
-use Rattle.std.specs.Prelude.{ℕ, ◌≤◌, ◌<◌, ◌≡◌, Bool, true, false, ◌⊎◌, List}
+use Rattle.std.specs.Prelude.{ℕ, ◌≤◌, ◌<◌, ◌≡◌, Bool, true, false, ◌⊎◌, List, Option, Some, None}
 use Rattle.tables.specs.Answers.{Clear}
 use Rattle.schema.specs.Kinds as kind
 use Rattle.schema.specs.Rows.{kind_of, a_of, b_of}
 use Rattle.schema_classes.specs.Least.{Common}
 use Rattle.schema_classes.specs.Made.{SomeRow, Mentioned, Fresh, KnownOrFresh}
-use Rattle.schema_classes.specs.declared.Found.{Found}
-use Rattle.schema_classes.specs.declared.Found.TheVariants.{Name, Nothing}
+use Rattle.schema_classes.specs.declared.Name.{Name}
 use Rattle.schema_classes.specs.declared.Part.{Part}
 use Rattle.schema_classes.specs.declared.Part.TheVariants.{Namespace, LocalBeside}
 
@@ -74,6 +73,6 @@ SmallerToldApart s p c d true = c < p → (u l : ℕ) → ¬ Common s c d u l
 SmallerToldApart s p c d false = Unit {0}
 
 -- the least common name of the namespace u
-abbrev pub LeastBeside : List ℕ → ℕ → ℕ → ℕ → Found → Type 0
-LeastBeside s c d u (Name v l) = (v ≡ u) × Common s c d u l × Clear (Common s c d u) l
-LeastBeside s c d u Nothing = (l : ℕ) → ¬ Common s c d u l
+abbrev pub LeastBeside : List ℕ → ℕ → ℕ → ℕ → Option Name → Type 0
+LeastBeside s c d u (Some n) = (n.namespace ≡ u) × Common s c d u n.local × Clear (Common s c d u) n.local
+LeastBeside s c d u None = (l : ℕ) → ¬ Common s c d u l

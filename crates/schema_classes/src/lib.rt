@@ -8,42 +8,37 @@ ghost use Rattle.schema.specs.RowRule.{max_rows};
 ghost use Rattle.schema.specs.Rows.{rows_of, kind_of};
 ghost use Rattle.schema_classes.specs.Membership.{in_class};
 ghost use Rattle.schema_classes.specs.WhichRow.{Judged};
-ghost use Rattle.schema_classes.specs.Judging.{smaller_of, unless_excepted, choice_of, JudgedBelow};
+ghost use Rattle.schema_classes.specs.Judging.{unless_excepted, choice_of, JudgedBelow};
 ghost use Rattle.schema_classes.specs.Least.{Common, LeastCommon};
 ghost use Rattle.schema_classes.specs.Search.{NsNameMentions, NameMentions, Mentions, MentionsBelow, OneMentions};
 ghost use Rattle.schema_classes.specs.Search.{Lowered, NextNumber, least_of, FreshNumber, ToTry};
 ghost use Rattle.schema_classes.specs.Search.{ToldApart, SmallerToldApart, LeastBeside};
 
 // Whether a name is in a class, and the row that says so: for yes the smallest that takes the name in, for no the
-// smallest except class that shuts it out, or NO_ROW where none does.
-#[derive(Clone, Copy)]
+// smallest except class that shuts it out, or NO_ROW where none does. Two answers of one kind: no is no error.
+#[derive(Clone, Copy, Debug, PartialEq, Eq)]
 pub enum Member {
     Yes(u32),
     No(u32),
 }
 
-// A name, or none.
-#[derive(Clone, Copy)]
-pub enum Found {
-    Name(u32, u32),
-    Nothing,
+// A name, by the numbers of its namespace and its local name.
+#[derive(Clone, Copy, Debug, PartialEq, Eq)]
+pub struct Name {
+    pub namespace: u32,
+    pub local: u32,
 }
 
 // A part of a name: the namespace, or the local number beside a namespace.
-#[derive(Clone, Copy)]
+#[derive(Clone, Copy, Debug, PartialEq, Eq)]
 enum Part {
     Namespace,
     LocalBeside(u32),
 }
 
-// Above every number of a name: none.
+// None, as a bound above every number of a name: the least of some numbers and none is then the least by <, and no match
+// stands at each.
 const NO_NUMBER: u64 = 4294967296;
-
-fn smaller_of(first: u32, second: u32) -> u32
-    ensures { result ≡ smaller_of first second }
-{
-    if second < first { second } else { first }
-}
 
 // What an anyName, or an nsName of the name's namespace, at a row says, by what its except says. A name that the except
 // holds is shut out by the except class, not by a row inside it.
@@ -62,12 +57,12 @@ fn choice_of(first: Member, second: Member) -> Member
 {
     match first {
         Member::Yes(p) => match second {
-            Member::Yes(q) => Member::Yes(smaller_of(p, q)),
+            Member::Yes(q) => Member::Yes(p.min(q)),
             Member::No(_) => Member::Yes(p),
         },
         Member::No(p) => match second {
             Member::Yes(q) => Member::Yes(q),
-            Member::No(q) => Member::No(smaller_of(p, q)),
+            Member::No(q) => Member::No(p.min(q)),
         },
     }
 }
@@ -77,10 +72,8 @@ fn name_holds(schema: &[u32], row: u32, namespace: u32, local: u32) -> Member
     requires { (0 < local) × (kind_of schema.now row ≡ kind.name) }
     ensures { Judged schema.now namespace local row result }
 {
-    if schema::field_a(schema, row) == namespace {
-        if schema::field_b(schema, row) == local {
-            return Member::Yes(row);
-        }
+    if schema::field_a(schema, row) == namespace && schema::field_b(schema, row) == local {
+        return Member::Yes(row);
     }
     Member::No(schema::NO_ROW)
 }
@@ -149,10 +142,7 @@ pub fn membership(schema: &[u32], row: u32, namespace: u32, local: u32) -> Membe
 pub fn in_class(schema: &[u32], row: u32, namespace: u32, local: u32) -> bool
     ensures { result ≡ in_class schema.now namespace local row }
 {
-    match membership(schema, row, namespace, local) {
-        Member::Yes(_) => true,
-        Member::No(_) => false,
-    }
+    matches!(membership(schema, row, namespace, local), Member::Yes(_))
 }
 
 // The number, where it is from `from` on and less than the best so far; else the best.
@@ -160,10 +150,7 @@ fn nearer(number: u32, from: u64, best: u64) -> u64
     ensures { Lowered (λ v. number ≡ v) from best result }
 {
     let wide = number as u64;
-    if wide < from {
-        return best;
-    }
-    if wide < best { wide } else { best }
+    if wide < from { best } else { wide.min(best) }
 }
 
 // What an nsName of a namespace mentions.
@@ -273,16 +260,12 @@ fn next_number(schema: &[u32], first: u32, second: u32, part: Part, fresh: u64, 
 fn both_hold(schema: &[u32], first: u32, second: u32, namespace: u32, local: u32) -> bool
     ensures { Decides (Common schema.now first second namespace local) result }
 {
-    if in_class(schema, first, namespace, local) {
-        in_class(schema, second, namespace, local)
-    } else {
-        false
-    }
+    in_class(schema, first, namespace, local) && in_class(schema, second, namespace, local)
 }
 
 // The least name of a namespace that both classes hold. Only the names of that namespace tell its local numbers apart:
 // those that they mention are tried, and the least that they do not.
-fn try_namespace(schema: &[u32], first: u32, second: u32, namespace: u32) -> Found
+fn try_namespace(schema: &[u32], first: u32, second: u32, namespace: u32) -> Option<Name>
     requires { rows_of schema.now ≤ max_rows }
     ensures { LeastBeside schema.now first second namespace result }
 {
@@ -291,15 +274,18 @@ fn try_namespace(schema: &[u32], first: u32, second: u32, namespace: u32) -> Fou
     let mut local = least_of(part);
     while local < NO_NUMBER {
         if both_hold(schema, first, second, namespace, local as u32) {
-            return Found::Name(namespace, local as u32);
+            return Some(Name {
+                namespace,
+                local: local as u32,
+            });
         }
         local = next_number(schema, first, second, part, fresh, local + 1);
     }
-    Found::Nothing
+    None
 }
 
 // The least name that both classes hold, tried namespace by namespace.
-fn try_namespaces(schema: &[u32], first: u32, second: u32) -> Found
+fn try_namespaces(schema: &[u32], first: u32, second: u32) -> Option<Name>
     requires { rows_of schema.now ≤ max_rows }
     ensures { LeastCommon schema.now first second result }
 {
@@ -307,13 +293,12 @@ fn try_namespaces(schema: &[u32], first: u32, second: u32) -> Found
     let fresh = fresh(schema, first, second, part);
     let mut namespace = least_of(part);
     while namespace < NO_NUMBER {
-        let found = try_namespace(schema, first, second, namespace as u32);
-        let Found::Nothing = found else {
-            return found;
-        };
+        if let Some(name) = try_namespace(schema, first, second, namespace as u32) {
+            return Some(name);
+        }
         namespace = next_number(schema, first, second, part, fresh, namespace + 1);
     }
-    Found::Nothing
+    None
 }
 
 // Whether the class at a row is one name or a choice of names, none of which another class holds: then the two have no
@@ -326,13 +311,8 @@ fn apart(schema: &[u32], row: u32, class: u32) -> bool
     let b = schema::field_b(schema, row);
     match schema::kind(schema, row) {
         schema::NAME => !in_class(schema, class, a, b),
-        schema::NAME_CHOICE => {
-            if smaller_apart(schema, row, a, class) {
-                smaller_apart(schema, row, b, class)
-            } else {
-                false
-            }
-        }
+        schema::NAME_CHOICE => smaller_apart(schema, row, a, class)
+            && smaller_apart(schema, row, b, class),
         _ => false,
     }
 }
@@ -342,25 +322,18 @@ fn apart(schema: &[u32], row: u32, class: u32) -> bool
 fn smaller_apart(schema: &[u32], parent: u32, row: u32, class: u32) -> bool
     ensures { SmallerToldApart schema.now parent row class result }
 {
-    if row < parent {
-        apart(schema, row, class)
-    } else {
-        true
-    }
+    row >= parent || apart(schema, row, class)
 }
 
 // The least name that the classes at two rows both hold, over all numbers as namespaces and all from 1 on as locals, or
 // nothing where there is none. Most classes are told apart without a search, and an nsName holds names of its namespace
 // alone. The caller shows that there are at most 512 rows.
-pub fn least_common(schema: &[u32], first: u32, second: u32) -> Found
+pub fn least_common(schema: &[u32], first: u32, second: u32) -> Option<Name>
     requires { rows_of schema.now ≤ max_rows }
     ensures { LeastCommon schema.now first second result }
 {
-    if apart(schema, first, second) {
-        return Found::Nothing;
-    }
-    if apart(schema, second, first) {
-        return Found::Nothing;
+    if apart(schema, first, second) || apart(schema, second, first) {
+        return None;
     }
     if schema::kind(schema, first) == schema::NS_NAME {
         return try_namespace(schema, first, second, schema::field_a(schema, first));

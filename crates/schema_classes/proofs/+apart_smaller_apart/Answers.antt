@@ -1,5 +1,6 @@
 -- The measure of a class is above that of its members, and that of a member above those of the classes at smaller rows.
 use native.Mathlib.Omega.{arith}
+use borrow.Author.Tests.{le-leb}
 use Rattle.schema_classes.proofs.LeastNames.{name_apart, choice_apart, member_apart}
 use Rattle.schema_classes.proofs.+apart_smaller_apart.Goals as goal
 
@@ -32,8 +33,9 @@ smaller_apart-apart-requires t c = (omega arith, tt)
 
 pub smaller_apart-returns-then-row-parent : goal.smaller_apart-returns-then-row-parent
 smaller_apart-returns-then-row-parent t c =
-    let a = c.args in
-    member_apart a.schema.now a.parent a.row a.class c.apart.result c.apart.ensures
+    rw (le-leb c.args.parent c.args.row c.if-row-parent.true) (λ h. absurd (omega arith))
 
 pub smaller_apart-returns-else-row-parent : goal.smaller_apart-returns-else-row-parent
-smaller_apart-returns-else-row-parent t c = λ h. absurd (omega arith)
+smaller_apart-returns-else-row-parent t c =
+    let a = c.args in
+    member_apart a.schema.now a.parent a.row a.class c.apart.result c.apart.ensures

@@ -3,15 +3,17 @@
 use mathlib.Core.Path.{sym, ◌∙◌}
 use Rattle.schema_classes.proofs.LeastNames.{swap_common, ns_namespace, one_least}
 use Rattle.schema_classes.proofs.least_common.Goals as goal
+use Rattle.schema_classes.proofs.least_common.Goals.{then-apart-via-then-apart, then-apart-via-else-apart+then-apart-2}
 
 pub returns-then-apart : goal.returns-then-apart
-returns-then-apart c = rw c.if-apart.true at c.apart.ensures
-
-pub returns-then-apart-2 : goal.returns-then-apart-2
-returns-then-apart-2 c =
+returns-then-apart c =
     let a = c.args in
-    let none-common = rw c.if-apart-2.true at c.apart-2.ensures in
-    λ u l h. none-common u l (swap_common a.schema.now a.first a.second u l h)
+    elim c.then-apart.branch [
+      | then-apart-via-then-apart w ↦ rw w.if-apart.true at c.apart.ensures
+      | then-apart-via-else-apart+then-apart-2 w ↦
+          let none-common = rw w.if-apart-2.true at w.apart-else-apart.ensures in
+          λ u l h. none-common u l (swap_common a.schema.now a.first a.second u l h)
+    ]
 
 pub returns-then-kind-eq-NS_NAME : goal.returns-then-kind-eq-NS_NAME
 returns-then-kind-eq-NS_NAME c =

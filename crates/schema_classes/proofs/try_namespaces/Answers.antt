@@ -11,14 +11,13 @@ fresh-fresh-requires c = c.requires
 pub loop-namespace-init : goal.loop-namespace-init
 loop-namespace-init c = passed_start c.least_of-namespace.ensures (omega arith) (λ x h. absurd (omega arith))
 
-pub try_namespace-found-requires : goal.try_namespace-found-requires
-try_namespace-found-requires c = c.requires
+pub try_namespace-requires : goal.try_namespace-requires
+try_namespace-requires c = c.requires
 
-pub returns-in_default : goal.returns-in_default
-returns-in_default c =
-    rw c.in_default.is
-    (found_least c.requires _ _ c.loop-namespace.invariant
-    (rw c.in_default.is at c.try_namespace-found.ensures))
+pub returns-in-Some : goal.returns-in-Some
+returns-in-Some c =
+    found_least c.requires _ _ c.loop-namespace.invariant
+    (rw c.in-Some.is at c.try_namespace.ensures)
 
 pub next_number-namespace-requires : goal.next_number-namespace-requires
 next_number-namespace-requires c = (c.fresh-fresh.ensures, omega arith)
@@ -28,7 +27,7 @@ loop-namespace-smaller c = omega (arith, next_more c.next_number-namespace.ensur
 
 pub loop-namespace-preserved : goal.loop-namespace-preserved
 loop-namespace-preserved c =
-    let nothing = rw c.in-Nothing.is at c.try_namespace-found.ensures in
+    let nothing = rw c.in_default.is at c.try_namespace.ensures in
     passed_step c.loop-namespace.invariant
     (λ x. nothing x.0 x.1) c.next_number-namespace.ensures
 
