@@ -1,11 +1,8 @@
 -- The invariant: each number passed is mentioned. So the numbers passed are no more than the rows, and the search ends.
 use native.Mathlib.Omega.{arith}
 use Rattle.schema_classes.proofs.Crowding.{count_low, least_small}
-use Rattle.schema_classes.proofs.Searching.{counting_start, counting_step, counting_done, next_here}
+use Rattle.schema_classes.proofs.Searching.{counting_step, next_here}
 use Rattle.schema_classes.proofs.fresh.Goals as goal
-
-pub loop-number-init : goal.loop-number-init
-loop-number-init c = counting_start c.least_of-number.ensures
 
 pub loop-number-preserved : goal.loop-number-preserved
 loop-number-preserved c =
@@ -13,15 +10,5 @@ loop-number-preserved c =
     counting_step inv (next_here c.next_mention.ensures (omega
     (arith, count_low c.requires _ _ c.args.part inv, least_small c.args.part)) c.loop-number-test.true)
 
-pub overflow_add-number : goal.overflow_add-number
-overflow_add-number c =
-    omega (arith, count_low c.requires _ _ c.args.part (loop-number-preserved c), least_small c.args.part)
-
 pub loop-number-smaller : goal.loop-number-smaller
 loop-number-smaller c = omega (arith, count_low c.requires _ _ c.args.part (loop-number-preserved c))
-
-pub returns : goal.returns
-returns c =
-    let inv = c.loop-number.invariant in
-    counting_done inv c.next_mention.ensures
-    (omega (arith, count_low c.requires _ _ c.args.part inv, least_small c.args.part)) c.loop-number-test.false
