@@ -1,5 +1,5 @@
 -- What occurs in a pattern: at the pattern itself, or in a child of a choice, group, interleave or oneOrMore.
-use mathlib.Core.Path.{◌≡◌, sym, ◌∙◌, subst}
+use mathlib.Core.Path.{◌≡◌, sym, ◌∙◌}
 use mathlib.Core.Bool.{true, false, true≢false}
 use mathlib.Core.Logic.{◌⊎◌, inl, inr, ⊎_elim}
 use mathlib.Core.List.{List}
@@ -7,11 +7,8 @@ use Prim.Native.Nat.{ℕ, ◌≤◌, ◌<◌}
 use Rattle.schema.specs.Kinds as kind
 use Rattle.schema.specs.Rows.{kind_of}
 use Rattle.schema.specs.Relations.{Child, connective, Occurs, itself, within}
-use Rattle.schema_classes.specs.Least.{LeastCommon}
-use Rattle.schema_classes.specs.declared.Found.{Found}
-use Rattle.schema_classes.specs.declared.Found.TheVariants.{Name, Nothing}
 use Rattle.schema.proofs.Shapes.{inside, outside}
-use Rattle.schema_occurrences.specs.Occurrences.{Somewhere, Shared}
+use Rattle.schema_occurrences.specs.Occurrences.{Somewhere}
 use Rattle.schema_occurrences.proofs.Descent.{ByChildren}
 
 -- a kind of choice, group, interleave or oneOrMore, and one of no such pattern
@@ -41,11 +38,3 @@ module _ (s : List ℕ) (P : ℕ → Type 0) (p : ℕ) where
     up = λ q h f. (f.0, within e h f.1, f.2);
     down = λ f. ⊎_elim (λ w. absurd (n w)) (λ g. g.1) (inside_of f.0 f.1 f.2);
   }
-
--- classes share a name exactly when there is a least one
-module _ (s : List ℕ) (c d : ℕ) {r : Found} (least : LeastCommon s c d r) where
-  pub shared_yes : {u l : ℕ} → r ≡ Name u l → Shared s c d
-  shared_yes {u} {l} e = (u, l, (subst (LeastCommon s c d) e least).0)
-
-  pub shared_no : r ≡ Nothing → ¬ Shared s c d
-  shared_no e f = subst (LeastCommon s c d) e least f.0 f.1 f.2

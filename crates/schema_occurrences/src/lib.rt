@@ -2,7 +2,8 @@
 #![tactic(auto)]
 
 ghost use Rattle.std.specs.Prelude.{◌≡◌, ◌<◌};
-ghost use Rattle.tables.specs.Answers.{Finds, Decides};
+ghost use Rattle.tables.specs.Answers.{Decides};
+ghost use Rattle.tables.specs.Checks.{Finds};
 ghost use Rattle.schema.specs.Kinds.{one_or_more};
 ghost use Rattle.schema.specs.Rows.{rows_of};
 ghost use Rattle.schema.specs.RowRule.{SizeRight, SizedFault};
@@ -11,9 +12,6 @@ ghost use Rattle.schema_places.specs.Sources.{HasKind};
 ghost use Rattle.schema_occurrences.specs.Attributes.{Infinite, AttributeFault};
 ghost use Rattle.schema_occurrences.specs.Interleaves.{class_referred, InterleaveFault};
 ghost use Rattle.schema_occurrences.specs.Occurrences.{Somewhere, Shared, Suits, Compared};
-
-use schema_classes::Found;
-use tables::Checked;
 
 // Whether the class at a row has anyName or nsName in it.
 #[cycle(infinite_infinite_child)]
@@ -38,16 +36,12 @@ fn infinite(schema: &[u32], class: u32) -> bool
 fn infinite_child(schema: &[u32], parent: u32, child: u32) -> bool
     ensures { Decides ((child < parent) × Infinite schema.now child) result }
 {
-    if child < parent {
-        infinite(schema, child)
-    } else {
-        false
-    }
+    child < parent && infinite(schema, child)
 }
 
 // What is looked for in a pattern: text; an attribute, or a ref to an element, that shares a name with a class; one
 // that shares a name with one in another pattern.
-#[derive(Clone, Copy)]
+#[derive(Clone, Copy, Debug, PartialEq, Eq)]
 enum Wanted {
     Text,
     AttributeSharing(u32),
@@ -61,11 +55,7 @@ fn share_name(schema: &[u32], first: u32, second: u32) -> bool
     requires { SizeRight schema.now }
     ensures { Decides (Shared schema.now first second) result }
 {
-    let found = schema_classes::least_common(schema, first, second);
-    match found {
-        Found::Name(_, _) => true,
-        Found::Nothing => false,
-    }
+    schema_classes::least_common(schema, first, second).is_some()
 }
 
 // Whether two classes have a name in common. Two that share none are remembered, where the table has a place for them,
@@ -204,7 +194,7 @@ fn attribute_fault(schema: &[u32], repeated: &[u32], r: u32) -> bool
     if kind != schema::ATTRIBUTE {
         return false;
     }
-    if tables::word(repeated, r as usize) == 1 {
+    if tables::at(repeated, r as usize) == 1 {
         return false;
     }
     infinite(schema, schema::child_a(schema, r))
@@ -232,62 +222,53 @@ fn interleave_fault(schema: &[u32], r: u32, compared: &mut [u64]) -> bool
 }
 
 // The first row that breaks a restriction on attributes, with a table of the rows below a oneOrMore.
-fn scan_attributes(schema: &[u32], repeated: &[u32]) -> Checked
+fn scan_attributes(schema: &[u32], repeated: &[u32]) -> Result<(), u32>
     requires { SizeRight schema.now × MarksExactly (Under schema.now (HasKind schema.now one_or_more)) repeated.now }
     ensures { Finds (AttributeFault schema.now) result }
 {
-    let rows = schema.len() / 3;
-    let mut r = 0;
-    while r < rows {
-        if attribute_fault(schema, repeated, r as u32) {
-            return Checked::Fault(r as u32);
+    for r in 0..(schema.len() / 3) as u32 {
+        if attribute_fault(schema, repeated, r) {
+            return Err(r);
         }
-        r += 1;
     }
-    Checked::Fine
+    Ok(())
 }
 
 // The first row that breaks a restriction on attributes.
-fn first_attribute(schema: &[u32]) -> Checked
+fn first_attribute(schema: &[u32]) -> Result<(), u32>
     requires { SizeRight schema.now }
     ensures { Finds (AttributeFault schema.now) result }
 {
     let mut repeated = [0u32; schema::MAX_ROWS];
-    schema_places::mark_repeated(schema, &mut repeated);
+    schema_places::mark_under(schema, schema::ONE_OR_MORE, &mut repeated);
     scan_attributes(schema, &repeated)
 }
 
 // Code 7, of any table: a wrong size is a fault at row 0; in a table of the right size the first row that breaks a
-// restriction on attributes is one. `Fine` exactly when there is neither.
-pub fn check_attributes(schema: &[u32]) -> Checked
+// restriction on attributes is one. `Ok` exactly when there is neither.
+pub fn check_attributes(schema: &[u32]) -> Result<(), u32>
     ensures { Finds (SizedFault schema.now (AttributeFault schema.now)) result }
 {
-    let size = schema::check_size(schema);
-    let Checked::Fine = size else {
-        return size;
-    };
+    schema::check_size(schema)?;
     first_attribute(schema)
 }
 
 // The first interleave that breaks a restriction on interleave, with a table of the classes that share no name.
-fn scan_interleaves(schema: &[u32], compared: &mut [u64]) -> Checked
+fn scan_interleaves(schema: &[u32], compared: &mut [u64]) -> Result<(), u32>
     requires { SizeRight schema.now × Compared schema.now compared.old }
     ensures { Finds (InterleaveFault schema.now) result }
 {
-    let rows = schema.len() / 3;
-    let mut r = 0;
-    while r < rows {
-        if interleave_fault(schema, r as u32, compared) {
-            return Checked::Fault(r as u32);
+    for r in 0..(schema.len() / 3) as u32 {
+        if interleave_fault(schema, r, compared) {
+            return Err(r);
         }
-        r += 1;
     }
-    Checked::Fine
+    Ok(())
 }
 
 // The first interleave that breaks a restriction on interleave.
 // Two classes are compared once in each order, however often refs to their elements meet.
-fn first_interleave(schema: &[u32]) -> Checked
+fn first_interleave(schema: &[u32]) -> Result<(), u32>
     requires { SizeRight schema.now }
     ensures { Finds (InterleaveFault schema.now) result }
 {
@@ -296,13 +277,10 @@ fn first_interleave(schema: &[u32]) -> Checked
 }
 
 // Code 8, of any table: a wrong size is a fault at row 0; in a table of the right size the first interleave that breaks
-// a restriction on interleave is one. `Fine` exactly when there is neither.
-pub fn check_interleaves(schema: &[u32]) -> Checked
+// a restriction on interleave is one. `Ok` exactly when there is neither.
+pub fn check_interleaves(schema: &[u32]) -> Result<(), u32>
     ensures { Finds (SizedFault schema.now (InterleaveFault schema.now)) result }
 {
-    let size = schema::check_size(schema);
-    let Checked::Fine = size else {
-        return size;
-    };
+    schema::check_size(schema)?;
     first_interleave(schema)
 }

@@ -1,5 +1,6 @@
 -- The row number falls at each call. A class is infinite itself or by a child.
 use native.Mathlib.Omega.{arith}
+use borrow.Author.Tests.{le-ltb}
 use Rattle.schema_occurrences.proofs.Descent.{beside, first_child, second_child}
 use Rattle.schema_occurrences.proofs.Infinity.{any_name_infinite, ns_name_infinite, by_children}
 use Rattle.schema_occurrences.specs.Attributes.{Infinite}
@@ -36,4 +37,5 @@ infinite_child-returns-then-child-parent t c =
     c.infinite.result c.if-child-parent.true c.infinite.ensures
 
 pub infinite_child-returns-else-child-parent : goal.infinite_child-returns-else-child-parent
-infinite_child-returns-else-child-parent t c = λ x. omega (arith, x.0)
+infinite_child-returns-else-child-parent t c =
+    rw (le-ltb c.args.child c.args.parent c.if-child-parent.false) (λ f. absurd (omega (arith, f.0)))

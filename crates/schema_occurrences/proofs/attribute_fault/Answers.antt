@@ -22,15 +22,15 @@ returns-then-kind-ne-ATTRIBUTE c =
     (rw (← c.kind-kind.ensures) (sym c.is_sharing.ensures ∙ c.if-is_sharing.false))
     (λ e. c.if-kind-ne-ATTRIBUTE.true (c.kind-kind.ensures ∙ e))
 
-pub returns-then-word-eq1 : goal.returns-then-word-eq1
-returns-then-word-eq1 c =
+pub returns-then-at-eq1 : goal.returns-then-at-eq1
+returns-then-at-eq1 c =
     repeated_right c.args.schema.now c.args.r c.requires.1
     (sym c.kind-kind.ensures ∙ c.if-kind-ne-ATTRIBUTE.false)
-    (sym c.word.ensures ∙ c.if-word-eq1.true)
+    (sym c.at.ensures ∙ c.if-at-eq1.true)
 
 pub returns : goal.returns
 returns c =
     infinite_decides c.args.schema.now c.args.r
     c.requires.1 (sym c.kind-kind.ensures ∙ c.if-kind-ne-ATTRIBUTE.false)
-    (λ m. c.if-word-eq1.false (c.word.ensures ∙ m))
+    (λ m. c.if-at-eq1.false (c.at.ensures ∙ m))
     c.infinite.result (rw c.child_a-2.ensures at c.infinite.ensures)
