@@ -1,18 +1,16 @@
 -- The table of content types as it is filled.
 use mathlib.Core.Path.{◌≡◌, refl, sym, ◌∙◌, ap}
 use mathlib.Core.Bool.{Bool, true, false, not, false≢true}
-use mathlib.Core.Logic.{◌≢◌}
 use mathlib.Core.List.{List}
 use Prim.Native.Nat.{ℕ, ◌+◌, ◌≤◌, ◌<◌}
 use native.Mathlib.Omega.{arith}
-use lib.ListN.{get_or, set, length-set, length-replicate}
+use lib.ListN.{get_or, set, length-set}
 use lib.Seq.{get_or-set_same, get_or-set_other}
 use borrow.Author.Count.{below_more}
 use lib.Dec.{eqb}
-use borrow.Author.Tests.{ne_eqb, eqb-true, eqb-false}
+use borrow.Author.Tests.{eqb-true, eqb-false}
 use Rattle.tables.specs.Answers.{Decides}
-use Rattle.tables.specs.Outputs.{zeros}
-use Rattle.schema.specs.Kinds as kind
+use Rattle.std.specs.Prelude.{Option, None}
 use Rattle.schema.specs.Rows.{rows_of, kind_of}
 use Rattle.schema.specs.RowRule.{max_rows, SizeRight}
 use Rattle.schema.proofs.Children.{kind_past}
@@ -23,19 +21,17 @@ use Rattle.schema_sequences.specs.Content.{HasType, value_type, data_type_1, dat
 use Rattle.schema_sequences.specs.Content.{text_type, ref_type, type_of_empty, attribute_type}
 use Rattle.schema_sequences.specs.Content.{sharing_type, one_or_more_type, choice_type, Clash, InList}
 use Rattle.schema_sequences.specs.Content.{SequenceFault, sharing_not_groupable, repeat_not_groupable}
-use Rattle.schema_sequences.specs.TypeTable.{no_type, type_by, TypeIs, Types}
+use Rattle.schema_sequences.specs.declared.ContentType.{ContentType}
+use Rattle.schema_sequences.specs.TypeTable.{no_type, numbered, TypeIs, Types}
 
-pub types_none : (s : List ℕ) → Types s (zeros max_rows) 0
-types_none s = record { size = length-replicate {A = ℕ} max_rows 0; known = λ r h. absurd (omega arith) }
-
-pub types_more : {s types : List ℕ} {n t : ℕ} → Types s types n
-    → n < max_rows → TypeIs s n t → Types s (set types n t) (n + 1)
-types_more {s} {types} {n} {t} table h i = record {
+pub types_more : {s : List ℕ} {types : List (Option ContentType)} {n : ℕ} (t : Option ContentType) → Types s types n
+    → n < max_rows → TypeIs s n (numbered t) → Types s (set types n t) (n + 1)
+types_more {s} {types} {n} t table h i = record {
   size = length-set types n t ∙ table.size;
   known =
-      below_more (λ (r : ℕ). TypeIs s r (get_or (set types n t) r 0)) n
-      (λ r l. rw (get_or-set_other types n r t 0 (λ e. omega arith)) (table.known r l))
-      (rw (get_or-set_same types n t 0 (omega (arith, table.size))) i);
+      below_more (λ (r : ℕ). TypeIs s r (numbered (get_or (set types n t) r None))) n
+      (λ r l. rw (get_or-set_other types n r t None (λ e. omega arith)) (table.known r l))
+      (rw (get_or-set_same types n t None (omega (arith, table.size))) i);
 }
 
 -- what is no row of the table has no content type
@@ -55,31 +51,6 @@ untyped z (choice_type e t u) = omega (arith, z, e)
 pub no_row_type : (s : List ℕ) (r : ℕ) → SizeRight s → rows_of s ≤ r → TypeIs s r no_type
 no_row_type s r w h =
     record { has = λ e. absurd (false≢true e); only = λ c t. absurd (untyped (kind_past s r (whole_rows w) h) t) }
-
--- no kind of a pattern that has a type, as the rest of a match says it
-abbrev pub Untyped : ℕ → Type 0
-Untyped k =
-    ((((((((((Unit {0} × (k ≢ kind.empty)) × (k ≢ kind.text)) × (k ≢ kind.«data»)) × (k ≢ kind.value))
-    × (k ≢ kind.list)) × (k ≢ kind.attribute)) × (k ≢ kind.ref)) × (k ≢ kind.one_or_more))
-    × (k ≢ kind.choice)) × (k ≢ kind.group)) × (k ≢ kind.interleave)
-
-pub type_other : (k b c d : ℕ) → Untyped k → no_type ≡ type_by k b c d
-unfolding type_by
-type_other k b c d o =
-    let p = o.0.0.0.0.0 in
-    rw (
-      ne_eqb k kind.empty p.0.0.0.0.0.1,
-      ne_eqb k kind.text p.0.0.0.0.1,
-      ne_eqb k kind.«data» p.0.0.0.1,
-      ne_eqb k kind.value p.0.0.1,
-      ne_eqb k kind.list p.0.1,
-      ne_eqb k kind.attribute p.1,
-      ne_eqb k kind.ref o.0.0.0.0.1,
-      ne_eqb k kind.one_or_more o.0.0.0.1,
-      ne_eqb k kind.choice o.0.0.1,
-      ne_eqb k kind.group o.0.1,
-      ne_eqb k kind.interleave o.1,
-    )
 
 -- a clash is at a row of the table
 clash_row : {s : List ℕ} {r : ℕ} → SizeRight s → Clash s r → r < rows_of s

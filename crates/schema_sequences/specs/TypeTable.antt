@@ -1,14 +1,26 @@
 -- The table of content types, and what one row's type is by those of its children; cited by private functions only.
 use Rattle.std.specs.Prelude.{ℕ, max, ◌<◌, ◌≡◌, Bool, true, false, not, cond, ◌&&◌, ◌||◌, List, length, get_or, ltb}
-use Rattle.std.specs.Prelude.{eqb}
+use Rattle.std.specs.Prelude.{eqb, Option, Some, None}
 use Rattle.schema.specs.Kinds as kind
 use Rattle.schema.specs.RowRule.{max_rows}
 use Rattle.schema_places.specs.Paths.{sharing_kind}
+use Rattle.schema_sequences.specs.declared.ContentType.{ContentType}
+use Rattle.schema_sequences.specs.declared.ContentType.TheVariants.{Empty, Complex, Simple}
 use Rattle.schema_sequences.specs.Content.{HasType, groupable, empty_type, complex_type, simple_type}
 
 -- stands for a row that has no content type
 abbrev pub no_type : ℕ
 no_type = 3
+
+-- the content types of the code, and what a row has of them, as the numbers of Content
+abbrev pub content_number : ContentType → ℕ
+content_number Empty = empty_type
+content_number Complex = complex_type
+content_number Simple = simple_type
+
+abbrev pub numbered : Option ContentType → ℕ
+numbered (Some c) = content_number c
+numbered None = no_type
 
 abbrev pub typed : ℕ → Bool
 typed c = ltb c no_type
@@ -45,6 +57,6 @@ pub record TypeIs (s : List ℕ) (r t : ℕ) : Type 0 where
   pub only : (c : ℕ) → HasType s r c → c ≡ t
 
 -- the types of the rows before n
-pub record Types (s types : List ℕ) (n : ℕ) : Type 0 where
+pub record Types (s : List ℕ) (types : List (Option ContentType)) (n : ℕ) : Type 0 where
   pub size : length types ≡ max_rows
-  pub known : (r : ℕ) → r < n → TypeIs s r (get_or types r 0)
+  pub known : (r : ℕ) → r < n → TypeIs s r (numbered (get_or types r None))

@@ -8,4 +8,5 @@ pub first_prohibited-requires : goal.first_prohibited-requires
 first_prohibited-requires c = few_rows (found_none _ c.check_size.ensures c.in_ok-check_size.was)
 
 pub returns : goal.returns
-returns c = sized_on _ _ c.check_size.ensures c.in_ok-check_size.was c.first_prohibited.result c.first_prohibited.ensures
+returns c =
+    sized_on _ _ c.check_size.ensures c.in_ok-check_size.was c.first_prohibited.result c.first_prohibited.ensures

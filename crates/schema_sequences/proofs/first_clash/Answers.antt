@@ -3,5 +3,5 @@ use mathlib.Core.Path.{refl}
 use Rattle.schema.proofs.RowLaws.{few_rows}
 use Rattle.schema_sequences.proofs.first_clash.Goals as goal
 
-pub mark_listed-requires : goal.mark_listed-requires
-mark_listed-requires c = record { few = few_rows c.requires; room = refl }
+pub mark_under-requires : goal.mark_under-requires
+mark_under-requires c = record { few = few_rows c.requires; room = refl }

@@ -7,10 +7,14 @@ use Rattle.schema.proofs.RowLaws.{few_rows}
 use Rattle.schema_sequences.proofs.type_row.Goals as goal
 
 pub child_type-c-requires : goal.child_type-c-requires
-child_type-c-requires c = (c.requires.0, c.requires.1, rw c.child_a.ensures (child_a_row c.args.schema.now c.args.r))
+child_type-c-requires c =
+    let pre = c.requires in
+    (pre.0, pre.1, pre.2, rw c.child_a.ensures (child_a_row c.args.schema.now c.args.r))
 
 pub child_type-d-requires : goal.child_type-d-requires
-child_type-d-requires c = (c.requires.0, c.requires.1, rw c.child_b.ensures (child_b_row c.args.schema.now c.args.r))
+child_type-d-requires c =
+    let pre = c.requires in
+    (pre.0, pre.1, pre.2, rw c.child_b.ensures (child_b_row c.args.schema.now c.args.r))
 
 pub bounds-types-r : goal.bounds-types-r
 bounds-types-r c =
@@ -23,4 +27,4 @@ returns c =
     let judged = row_judged a.schema.now a.r c.kind-kind.ensures
     c.field_b.ensures c.child_a.ensures c.child_b.ensures
     c.child_type-c.ensures c.child_type-d.ensures c.row_clashes.ensures c.row_type.ensures in
-    (judged.0, types_more c.requires.1 (omega (arith, c.requires.2, few_rows c.requires.0)) judged.1)
+    (judged.0, types_more _ c.requires.1 (omega (arith, c.requires.2, few_rows c.requires.0)) judged.1)
