@@ -39,3 +39,17 @@ pub data Tries (code : Code) (P : ℕ → Type 0) (next : Result Unit Refusal �
 -- no code is left
 abbrev pub Passes : Result Unit Refusal → Type 0
 Passes v = v ≡ Ok tt
+
+-- an answer in the numbers of FORMAT, "Codes and places": code and place, both 0 where nothing is refused
+abbrev pub code_of : {A : Type 0} → Result A Refusal → ℕ
+code_of (Ok x) = 0
+code_of (Err r) = number_of r.code
+
+abbrev pub place_of : {A : Type 0} → Result A Refusal → ℕ
+place_of (Ok x) = 0
+place_of (Err r) = r.place
+
+-- what an answer says of refusal alone
+abbrev pub verdict_of : {A : Type 0} → Result A Refusal → Result Unit Refusal
+verdict_of (Ok x) = Ok tt
+verdict_of (Err r) = Err r
