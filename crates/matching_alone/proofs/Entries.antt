@@ -1,15 +1,17 @@
 -- The entries of a row from those of the rows before it.
-use Prim.Native.Nat.{ℕ, zero, suc, ◌<◌}
+use Prim.Native.Nat.{ℕ, ◌<◌}
 use mathlib.Core.Path.{◌≡◌, refl, sym, ◌∙◌, ap, ap₂}
+use mathlib.Core.Bool.{Bool, true, false}
 use mathlib.Core.List.{List, [], ◌∷◌, nil≢cons, cons≢nil}
 use mathlib.Core.Logic.Iff
 use mathlib.Core.Logic.{◌⊎◌, inl, ⊎_map, ⊎_elim, ◌↔◌, ◌≢◌}
 use native.Mathlib.Decide.{ℕ_discrete}
 use native.Mathlib.Omega.{arith}
 use lib.ListN.{get_or}
+use Rattle.tables.specs.Answers.{Decides}
 use Rattle.tables.specs.Tables.{StringTable, tables_of}
+use Rattle.tables.proofs.Answers.{decides_eqb}
 use Rattle.strings.specs.Strings.{text_of, schema_strings, instance_strings}
-use Rattle.datatypes.specs.Whitespace.{token_equal}
 use Rattle.schema.specs.Kinds as kind
 use Rattle.schema.specs.Rows.{kind_of, a_of, b_of}
 use Rattle.schema.specs.Views.{Pattern, pattern_of}
@@ -19,7 +21,7 @@ use Rattle.schema.proofs.Patterns.{one_or_more_at, choice_at, group_at, interlea
 use Rattle.schema_restrictions.specs.Schema.{SchemaPasses}
 use Rattle.matching_rules.specs.Items.{string, no_attributes, Lookups}
 use Rattle.matching_rules.specs.Rules.{Match, NotMatchBy, text_1, empty, text_2}
-use Rattle.matching_rules.specs.Job.{lookups, datatype_equal}
+use Rattle.matching_rules.specs.Job.{lookups}
 use Rattle.matching_rules.proofs.Inversion.{One, stepwise}
 use Rattle.matching_rules.proofs.Passing.{restricted}
 use Rattle.matching_rules.specs.Reach.{Subpattern, operand, repeated, choice_first, choice_second, group_first}
@@ -29,6 +31,7 @@ use Rattle.matching_rules.proofs.RowPatterns.{makes_data, makes_except, makes_va
 use Rattle.matching_rules.proofs.RowPatterns.{makes_attribute, makes_ref, makes_one_or_more, makes_choice}
 use Rattle.matching_rules.proofs.RowPatterns.{makes_group, makes_interleave, makes_none, row_makes}
 use Rattle.matching_rules.proofs.Strata.{not_match}
+use Rattle.matching_tokens.specs.MarkTable.{mark, marked}
 use Rattle.matching_tokens.specs.Tokens.{TokenPlaces, ListReady}
 use Rattle.matching_alone.specs.Alone.{TellsString, Alone}
 use Rattle.matching_alone.specs.Rows.{EitherOf, DataEntry, OneSide, OneOf, EqualTo}
@@ -48,6 +51,16 @@ one_iff = (λ x. ⊎_elim (λ a. a) (λ a. a) x, inl)
 
 pub not_one : ¬ (◌≡◌ {A = ℕ} 0 1)
 not_one e = omega arith
+
+-- the byte that is stored for an answer
+pub byte_told : {A : Type 0} (b : Bool) → Decides A b → (mark b ≡ 1) ↔ A
+byte_told true a = (λ e. a, λ x. refl)
+byte_told false n = (λ e. absurd (not_one e), λ a. absurd (n a))
+
+-- what the table says of a row, where it has been read
+pub marked_told : (nothing : List ℕ) {p q : ℕ} {b : Bool} → b ≡ marked nothing p → p ≡ q
+    → Decides (get_or nothing q 0 ≡ 1) b
+marked_told nothing {q = q} e f = rw (e, f) (decides_eqb (get_or nothing q 0) 1)
 
 module _ (s : List ℕ) (p : ℕ) where
   -- a row of no other kind
@@ -123,10 +136,11 @@ module _ (s nothing : List ℕ) (p : ℕ) {v : ℕ} where
   pub nothing_text : kind_of s p ≡ kind.text → v ≡ 1 → NothingAt s nothing p v
   nothing_text e f T t alone c b = (λ x. rw (text_at s p e) text_1, λ x. f)
 
-  pub nothing_one_or_more : kind_of s p ≡ kind.one_or_more → v ≡ get_or nothing (a_of s p) 0 → NothingAt s nothing p v
+  pub nothing_one_or_more : kind_of s p ≡ kind.one_or_more
+      → (v ≡ 1) ↔ (get_or nothing (a_of s p) 0 ≡ 1) → NothingAt s nothing p v
   nothing_one_or_more e f T t alone c b =
       let x = one_or_more_at s p e in
-      rw f (Iff.trans (b.empty t (a_of s p) (falls s p T t c x (operand repeated)))
+      Iff.trans f (Iff.trans (b.empty t (a_of s p) (falls s p T t c x (operand repeated)))
       (Iff.symm (null_one_or_more (L T s t) (N T s t) x)))
 
   pub nothing_choice : kind_of s p ≡ kind.choice
@@ -136,7 +150,7 @@ module _ (s nothing : List ℕ) (p : ℕ) {v : ℕ} where
       Iff.trans f (Iff.trans (or_iff (b.empty t (a_of s p) (falls s p T t c x (operand choice_first))) (b.empty t
       (b_of s p) (falls s p T t c x (operand choice_second)))) (Iff.symm (null_choice (L T s t) (N T s t) x)))
 
-  pub nothing_group : kind_of s p ≡ kind.group
+  nothing_group : kind_of s p ≡ kind.group
       → (v ≡ 1) ↔ ((get_or nothing (a_of s p) 0 ≡ 1) × (get_or nothing (b_of s p) 0 ≡ 1)) → NothingAt s nothing p v
   nothing_group e f T t alone c b =
       let x = group_at s p e in
@@ -144,13 +158,22 @@ module _ (s nothing : List ℕ) (p : ℕ) {v : ℕ} where
       (b.empty t (b_of s p) (falls s p T t c x (operand group_second))))
       (Iff.symm (null_group (L T s t) (N T s t) p (a_of s p) (b_of s p) x)))
 
-  pub nothing_interleave : kind_of s p ≡ kind.interleave
+  nothing_interleave : kind_of s p ≡ kind.interleave
       → (v ≡ 1) ↔ ((get_or nothing (a_of s p) 0 ≡ 1) × (get_or nothing (b_of s p) 0 ≡ 1)) → NothingAt s nothing p v
   nothing_interleave e f T t alone c b =
       let x = interleave_at s p e in
       Iff.trans f (Iff.trans (and_iff (b.empty t (a_of s p) (falls s p T t c x (operand interleave_first)))
       (b.empty t (b_of s p) (falls s p T t c x (operand interleave_second))))
       (Iff.symm (null_interleave (L T s t) (N T s t) p (a_of s p) (b_of s p) x)))
+
+  -- a group or an interleave
+  pub nothing_both : (kind_of s p ≢ kind.group → kind_of s p ≡ kind.interleave)
+      → (v ≡ 1) ↔ ((get_or nothing (a_of s p) 0 ≡ 1) × (get_or nothing (b_of s p) 0 ≡ 1)) → NothingAt s nothing p v
+  nothing_both e f = go (ℕ_discrete (kind_of s p) kind.group)
+    where
+      go : Dec (kind_of s p ≡ kind.group) → NothingAt s nothing p v
+      go (yes g) = nothing_group g f
+      go (no n) = nothing_interleave (e n) f
 
   pub nothing_rest : Rest s p → kind_of s p ≢ kind.empty → v ≡ 0 → NothingAt s nothing p v
   nothing_rest r f z T t alone c b =
@@ -263,17 +286,3 @@ list_ready {T} {s} {alone} {nothing} {places} {p} {a} asked placed =
       nulls = λ t q h. let l = falls s p T t c x of_list in asked.row.before.empty t q (omega arith);
       listable = λ t. (restricted (tables_of T s t) c).lists p a x;
     }
-
--- equality by the number of the datatype
-pub by_string : (d : ℕ) (a b : List ℕ) → d ≡ 0 → (a ≡ b) ↔ datatype_equal d a b
-by_string d a b e = rw e (λ x. x, λ x. x)
-
-pub by_token : (d : ℕ) (a b : List ℕ) → d ≢ 0 → token_equal a b ↔ datatype_equal d a b
-by_token zero a b n = absurd (n refl)
-by_token (suc d) a b n = (λ x. x, λ x. x)
-
-pub yes_one : {A B : Type 0} → A → A ↔ B → (◌≡◌ {A = ℕ} 1 1) ↔ B
-yes_one a f = (λ e. f.0 a, λ b. refl)
-
-pub no_one : {A B : Type 0} → ¬ A → A ↔ B → (◌≡◌ {A = ℕ} 0 1) ↔ B
-no_one n f = (λ e. absurd (not_one e), λ b. absurd (n (f.1 b)))

@@ -41,18 +41,10 @@ module _ (f : ℕ → ℕ → Type 0) {before : List ℕ} {p : ℕ} where
   }
 
 module _ {f : ℕ → ℕ → Type 0} {before : List ℕ} {p : ℕ} where
-  -- the rows before are read as they were
-  pub row_reads : {now : List ℕ} {n : ℕ} (a k : ℕ) → a < p → k < max_strings
-      → RowOf f before now p n → entry now a k ≡ entry before a k
-  row_reads a k h l r = r.kept (a * max_strings + k) (omega arith)
-
   pub row_map : {g : ℕ → ℕ → Type 0} {after : List ℕ} {n : ℕ}
       → ((k v : ℕ) → k < n → f k v → g k v) → RowOf f before after p n → RowOf g before after p n
   row_map {after = after} m r =
       record { size = r.size; kept = r.kept; each = λ k h. m k (entry after p k) h (r.each k h) }
-
-  pub row_less : {after : List ℕ} {n k : ℕ} → n ≤ k → RowOf f before after p k → RowOf f before after p n
-  row_less h r = record { size = r.size; kept = r.kept; each = λ j l. r.each j (omega arith) }
 
 pub rows_none : {T : StringTable} {s alone nothing : List ℕ} → Alone T s alone nothing 0
 rows_none = record { strings = λ t p k h. absurd (omega arith); empty = λ t p h. absurd (omega arith) }
@@ -76,11 +68,3 @@ rows_more {T} {s} {alone} {after} {nothing} {p} {v} h i c a m d =
 -- the first k strings
 abbrev pub BlankTo : StringTable → List ℕ → ℕ → Type 0
 BlankTo T blank n = (k : ℕ) → k < n → (get_or blank k 0 ≡ 1) ↔ (whitespace (text_of T k) ≡ true)
-
-pub blank_more : (T : StringTable) (blank : List ℕ) (k v : ℕ) → k < length blank
-    → (v ≡ 1) ↔ (whitespace (text_of T k) ≡ true) → BlankTo T blank k → BlankTo T (set blank k v) (k + 1)
-blank_more T blank k v i d b =
-    below_more (λ (j : ℕ). (get_or (set blank k v) j 0 ≡ 1) ↔ (whitespace (text_of T j) ≡ true)) k
-    (λ j m. subst (λ (x : ℕ). (x ≡ 1) ↔ (whitespace (text_of T j) ≡ true))
-    (sym (get_or-set_other blank k j v 0 (λ e. omega arith))) (b j m))
-    (subst (λ (x : ℕ). (x ≡ 1) ↔ (whitespace (text_of T k) ≡ true)) (sym (get_or-set_same blank k v 0 i)) d)

@@ -1,10 +1,8 @@
 -- The rows by their kinds: each is right where its entries are as its kind asks.
 use Prim.Native.Nat.{ℕ, ◌<◌}
-use mathlib.Core.Path.{◌≡◌, sym, ◌∙◌}
+use mathlib.Core.Path.{◌≡◌, ◌∙◌}
 use mathlib.Core.List.{List, []}
-use mathlib.Core.Logic.Iff
-use mathlib.Core.Logic.{inl, inr, ⊎_map, ⊎_elim, ◌≢◌}
-use lib.ListN.{get_or}
+use mathlib.Core.Logic.{◌≢◌}
 use Rattle.tables.specs.Tables.{StringTable}
 use Rattle.strings.specs.Strings.{schema_strings, instance_strings}
 use Rattle.schema.specs.Kinds as kind
@@ -13,49 +11,12 @@ use Rattle.schema.proofs.Patterns.{except_at, one_or_more_at, choice_at, group_a
 use Rattle.schema_restrictions.specs.Schema.{SchemaPasses}
 use Rattle.matching_rules.specs.Reach.{operand, repeated, choice_first, choice_second, group_first}
 use Rattle.matching_rules.specs.Reach.{group_second, interleave_first, interleave_second, of_except}
-use Rattle.matching_alone.specs.Rows.{EitherOf, NotOf, DataEntry, OneOf, EqualTo}
+use Rattle.matching_alone.specs.Rows.{EitherOf, DataEntry, OneOf, EqualTo}
 use Rattle.matching_alone.specs.Rows.{TokensTo, SameRow, StringAt, RowOf, RowMade}
 use Rattle.matching_alone.proofs.Filling.{row_map}
-use Rattle.matching_alone.proofs.Entries.{one_iff, not_one, Rest, falls, string_text, string_data}
+use Rattle.matching_alone.proofs.Entries.{Rest, falls, string_text, string_data}
 use Rattle.matching_alone.proofs.Entries.{string_value, string_same, string_list, string_one_or_more}
 use Rattle.matching_alone.proofs.Entries.{string_choice, string_group, string_interleave, string_rest}
-
--- data without an except, and with one
-module _ {before after : List ℕ} {p n except : ℕ} where
-  pub data_all : except ≡ kind.no_row → RowOf (λ k v. v ≡ 1) before after p n
-      → RowOf (DataEntry before except) before after p n
-  data_all z = row_map (λ k v h e. record { all = λ y. e; but = λ f. absurd (f z) })
-
-  pub data_but : except ≢ kind.no_row → RowOf (NotOf before except) before after p n
-      → RowOf (DataEntry before except) before after p n
-  data_but f = row_map (λ k v h e. record { all = λ z. absurd (f z); but = λ g. e })
-
--- two patterns of which each matches the empty sequence or does not
-module _ (before nothing : List ℕ) {after : List ℕ} {p n : ℕ} (a b : ℕ)
-    {x y : ℕ} (xe : x ≡ get_or nothing a 0) (ye : y ≡ get_or nothing b 0) where
-  pub one_both : x ≡ 1 → y ≡ 1 → RowOf (EitherOf before a b) before after p n
-      → RowOf (OneOf before nothing a b) before after p n
-  one_both f g =
-      row_map (λ k v h e.
-      Iff.trans e (⊎_map (λ d. (d, sym ye ∙ g)) (λ d. (sym xe ∙ f, d)), ⊎_map (λ d. d.0) (λ d. d.1)))
-
-  pub one_second : x ≡ 1 → y ≢ 1 → RowOf (EitherOf before b b) before after p n
-      → RowOf (OneOf before nothing a b) before after p n
-  one_second f g =
-      row_map (λ k v h e.
-      Iff.trans e (Iff.trans one_iff (λ d. inr (sym xe ∙ f, d), ⊎_elim (λ d. absurd (g (ye ∙ d.1))) (λ d. d.1))))
-
-  pub one_first : x ≢ 1 → y ≡ 1 → RowOf (EitherOf before a a) before after p n
-      → RowOf (OneOf before nothing a b) before after p n
-  one_first f g =
-      row_map (λ k v h e.
-      Iff.trans e (Iff.trans one_iff (λ d. inl (d, sym ye ∙ g), ⊎_elim (λ d. d.0) (λ d. absurd (f (xe ∙ d.0))))))
-
-  pub one_none : x ≢ 1 → y ≢ 1 → RowOf (λ k v. v ≡ 0) before after p n
-      → RowOf (OneOf before nothing a b) before after p n
-  one_none f g =
-      row_map (λ k v h e.
-      (λ z. absurd (not_one (sym e ∙ z)), ⊎_elim (λ d. absurd (g (ye ∙ d.1))) (λ d. absurd (f (xe ∙ d.0)))))
 
 -- a row that is filled by its kind
 module _ (T : StringTable) (s before nothing : List ℕ) {after : List ℕ} (p : ℕ) where

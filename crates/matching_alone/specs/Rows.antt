@@ -1,5 +1,5 @@
 -- One row of the table while it is filled; cited by private functions only.
-use Rattle.std.specs.Prelude.{ℕ, ◌*◌, ◌≤◌, ◌<◌, ◌≡◌, ◌↔◌, ◌⊎◌, ◌≢◌, List, map, length, get_or}
+use Rattle.std.specs.Prelude.{ℕ, ◌*◌, ◌≤◌, ◌<◌, ◌≡◌, Bool, ◌↔◌, ◌⊎◌, ◌≢◌, List, map, length, get_or}
 use Rattle.tables.specs.Tables.{StringTable, tables_of}
 use Rattle.schema.specs.Kinds as kind
 use Rattle.schema.specs.Rows.{kind_of, a_of, b_of}
@@ -11,6 +11,7 @@ use Rattle.datatypes.specs.Split.{split}
 use Rattle.matching_rules.specs.Items.{string, no_attributes}
 use Rattle.matching_rules.specs.Rules.{Matches}
 use Rattle.matching_rules.specs.Job.{lookups, datatype_equal}
+use Rattle.matching_tokens.specs.MarkTable.{mark}
 use Rattle.matching_alone.specs.Alone.{entry, TellsString, TellsNothing, Alone}
 
 -- the answer v for string k by the rows that come before: it is in one of two
@@ -76,6 +77,10 @@ pub record RowOf (f : ℕ → ℕ → Type 0) (before after : List ℕ) (p n : �
   pub size : length after ≡ length before
   pub kept : (i : ℕ) → i < p * max_strings → get_or after i 0 ≡ get_or before i 0
   pub each : (k : ℕ) → k < n → f k (entry after p k)
+
+-- v is 1 where a test says yes of string k, and 0 where it says no: it may say b of it where says k b
+abbrev pub SaidBy : (says : ℕ → Bool → Type 0) (k v : ℕ) → Type 0
+SaidBy says k v = (b : Bool) × says k b × (v ≡ mark b)
 
 -- the entries of row p are right, where those of the rows before it are
 abbrev pub RowMade : (T : StringTable) (s before nothing after : List ℕ) (p : ℕ) → Type 0

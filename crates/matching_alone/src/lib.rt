@@ -1,83 +1,52 @@
 // Which strings match a pattern alone, and which patterns match nothing at all.
 #![tactic(auto)]
 
-ghost use Rattle.std.specs.Prelude.{◌≡◌, true, ◌↔◌, ◌⊎◌, ◌≢◌, List, ℕ, ◌<◌, ◌≤◌, length, get_or};
+ghost use Rattle.std.specs.Prelude.{◌≡◌, true, ◌⊎◌, ◌≢◌, List, ℕ, ◌<◌, ◌≤◌, length, get_or};
+ghost use Rattle.tables.specs.Answers.{Decides};
 ghost use Rattle.tables.specs.Tables.{string_table};
 ghost use Rattle.strings.specs.Strings.{text_of, max_bytes};
-ghost use Rattle.datatypes.specs.Whitespace.{whitespace};
 ghost use Rattle.schema_restrictions.specs.Schema.{SchemaPasses};
 ghost use Rattle.matching_rules.specs.Job.{datatype_equal};
+ghost use Rattle.matching_tokens.specs.MarkTable.{mark};
 ghost use Rattle.matching_tokens.specs.Tokens.{ListReady};
 ghost use Rattle.schema.specs.Kinds.{no_row, value};
 ghost use Rattle.schema.specs.Rows.{kind_of};
 ghost use Rattle.matching_alone.specs.Alone.{Blank, Alone, FillReady, Filled};
 ghost use Rattle.matching_alone.specs.Rows.{EitherOf, NotOf, DataEntry, OneOf, EqualTo, TokensTo, SameRow};
-ghost use Rattle.matching_alone.specs.Rows.{lead_of, LeadsTo, NothingAt, RowOf, Fillable, FillableList, RowMade};
+ghost use Rattle.matching_alone.specs.Rows.{lead_of, LeadsTo, NothingAt, RowOf, SaidBy};
+ghost use Rattle.matching_alone.specs.Rows.{Fillable, FillableList, RowMade};
 
-fn either(x: u8, y: u8) -> u8
-    ensures { (result ≡ 1) ↔ ((x ≡ 1) ⊎ (y ≡ 1)) }
+// Whether one of two entries is 1.
+fn either(x: u8, y: u8) -> bool
+    ensures { Decides ((x ≡ 1) ⊎ (y ≡ 1)) result }
 {
-    if x == 1 {
-        return 1;
-    }
-    y
-}
-
-fn both(x: u8, y: u8) -> u8
-    ensures { (result ≡ 1) ↔ ((x ≡ 1) × (y ≡ 1)) }
-{
-    if x == 1 {
-        return y;
-    }
-    0
-}
-
-fn neither(x: u8) -> u8
-    ensures { (result ≡ 1) ↔ ((x ≡ 1) → ⊥) }
-{
-    if x == 1 {
-        return 0;
-    }
-    1
-}
-
-fn nothing_in(nothing: &[u8], p: u32) -> u8
-    ensures { result ≡ get_or nothing.now p 0 }
-{
-    tables::byte(nothing, p as usize)
+    x == 1 || y == 1
 }
 
 // Whether two texts are one value of a datatype.
-fn same_value(datatype: u32, a: &[u8], b: &[u8]) -> u8
-    ensures { (result ≡ 1) ↔ datatype_equal datatype a.now b.now }
+fn same_value(datatype: u32, a: &[u8], b: &[u8]) -> bool
+    ensures { Decides (datatype_equal datatype a.now b.now) result }
 {
     if datatype == 0 {
-        if datatypes::same_string(a, b) {
-            return 1;
-        }
-        return 0;
+        datatypes::same_string(a, b)
+    } else {
+        datatypes::same_token(a, b)
     }
-    if datatypes::same_token(a, b) {
-        return 1;
-    }
-    0
 }
 
 // Whether the pattern at row p matches the empty sequence, by the rows before it.
-fn nothing_at(schema: &[u32], nothing: &[u8], p: u32) -> u8
-    ensures { NothingAt schema.now nothing.now p result }
+fn nothing_at(schema: &[u32], nothing: &[u8], p: u32) -> bool
+    ensures { NothingAt schema.now nothing.now p (mark result) }
 {
     let kind = schema::kind(schema, p);
-    let a = nothing_in(nothing, schema::field_a(schema, p));
-    let b = nothing_in(nothing, schema::field_b(schema, p));
+    let a = matching_tokens::is_marked(nothing, schema::field_a(schema, p));
+    let b = matching_tokens::is_marked(nothing, schema::field_b(schema, p));
     match kind {
-        schema::EMPTY => 1,
-        schema::TEXT => 1,
+        schema::EMPTY | schema::TEXT => true,
         schema::ONE_OR_MORE => a,
-        schema::CHOICE => either(a, b),
-        schema::GROUP => both(a, b),
-        schema::INTERLEAVE => both(a, b),
-        _ => 0,
+        schema::CHOICE => a || b,
+        schema::GROUP | schema::INTERLEAVE => a && b,
+        _ => false,
     }
 }
 
@@ -85,7 +54,7 @@ fn nothing_at(schema: &[u32], nothing: &[u8], p: u32) -> u8
 fn lead(text: &[u8]) -> u8
     ensures { result ≡ lead_of text.now }
 {
-    tables::byte(text, datatypes::skip_space(text, 0))
+    tables::at(text, datatypes::skip_space(text, 0))
 }
 
 // The lead of each string.
@@ -93,11 +62,8 @@ fn fill_leads(bytes: &[u8], ends: &[u32], leads: &mut [u8])
     requires { (length ends.now ≤ 512) × (512 ≤ length leads.old) }
     ensures { LeadsTo (string_table bytes.now ends.now) leads.new (length ends.now) }
 {
-    let mut k: usize = 0;
-    while k < ends.len() {
-        let v = lead(strings::text(bytes, ends, k));
-        leads[k] = v;
-        k += 1;
+    for k in 0..ends.len() {
+        leads[k] = lead(strings::text(bytes, ends, k));
     }
 }
 
@@ -110,14 +76,11 @@ fn equal_at(
     own: &[u8],
     first: u8,
     k: usize,
-) -> u8
+) -> bool
     requires { (first ≡ lead_of own.now) × (get_or leads.now k 0 ≡ lead_of (text_of (string_table bytes.now ends.now) k)) }
-    ensures { (result ≡ 1) ↔ datatype_equal datatype (text_of (string_table bytes.now ends.now) k) own.now }
+    ensures { Decides (datatype_equal datatype (text_of (string_table bytes.now ends.now) k) own.now) result }
 {
-    if tables::byte(leads, k) != first {
-        return 0;
-    }
-    same_value(datatype, strings::text(bytes, ends, k), own)
+    tables::at(leads, k) == first && same_value(datatype, strings::text(bytes, ends, k), own)
 }
 
 // The first n entries of row p become v.
@@ -126,10 +89,18 @@ fn fill_same(alone: &mut [u8], p: u32, n: usize, v: u8)
     ensures { RowOf (λ k x. x ≡ v) alone.old alone.new p n }
 {
     let to = p as usize * 512;
-    let mut k: usize = 0;
-    while k < n {
-        alone[to + k] = v;
-        k += 1;
+    alone[to..to + n].fill(v);
+}
+
+// The first n entries of row p become 1 where a test says yes of their strings, and 0 where it says no.
+fn fill_by<F: Fn(usize) -> bool>(alone: &mut [u8], p: u32, n: usize, test: F)
+    requires room { (p < 512) × (n ≤ 512) × (262144 ≤ length alone.old) }
+    requires callable { (k : ℕ) → k < n → F.pre test k }
+    ensures { RowOf (SaidBy (F.post test)) alone.old alone.new p n }
+{
+    let to = p as usize * 512;
+    for k in 0..n {
+        alone[to + k] = u8::from(test(k));
     }
 }
 
@@ -139,19 +110,14 @@ fn fill_either(alone: &mut [u8], p: u32, n: usize, a: u32, b: u32)
     requires { (p < 512) × (n ≤ 512) × (262144 ≤ length alone.old) }
     ensures { a < p → b < p → RowOf (EitherOf alone.old a b) alone.old alone.new p n }
 {
-    if p <= a {
-        return;
-    }
-    if p <= b {
+    if p <= a || p <= b {
         return;
     }
     let to = p as usize * 512;
     let first = a as usize * 512;
     let second = b as usize * 512;
-    let mut k: usize = 0;
-    while k < n {
-        alone[to + k] = either(alone[first + k], alone[second + k]);
-        k += 1;
+    for k in 0..n {
+        alone[to + k] = u8::from(either(alone[first + k], alone[second + k]));
     }
 }
 
@@ -165,10 +131,8 @@ fn fill_neither(alone: &mut [u8], p: u32, n: usize, a: u32)
     }
     let to = p as usize * 512;
     let from = a as usize * 512;
-    let mut k: usize = 0;
-    while k < n {
-        alone[to + k] = neither(alone[from + k]);
-        k += 1;
+    for k in 0..n {
+        alone[to + k] = u8::from(alone[from + k] != 1);
     }
 }
 
@@ -179,9 +143,9 @@ fn fill_data(alone: &mut [u8], p: u32, n: usize, except: u32)
 {
     if except == schema::NO_ROW {
         fill_same(alone, p, n, 1);
-        return;
+    } else {
+        fill_neither(alone, p, n, except);
     }
-    fill_neither(alone, p, n, except);
 }
 
 // The entries of a group or an interleave: one operand matches the string alone and the other the empty sequence.
@@ -189,21 +153,14 @@ fn fill_one(alone: &mut [u8], nothing: &[u8], p: u32, n: usize, a: u32, b: u32)
     requires { (p < 512) × (n ≤ 512) × (262144 ≤ length alone.old) }
     ensures { a < p → b < p → RowOf (OneOf alone.old nothing.now a b) alone.old alone.new p n }
 {
-    let first = nothing_in(nothing, a);
-    let second = nothing_in(nothing, b);
-    if first == 1 {
-        if second == 1 {
-            fill_either(alone, p, n, a, b);
-            return;
-        }
-        fill_either(alone, p, n, b, b);
-        return;
+    let first = matching_tokens::is_marked(nothing, a);
+    let second = matching_tokens::is_marked(nothing, b);
+    match (first, second) {
+        (true, true) => fill_either(alone, p, n, a, b),
+        (true, false) => fill_either(alone, p, n, b, b),
+        (false, true) => fill_either(alone, p, n, a, a),
+        (false, false) => fill_same(alone, p, n, 0),
     }
-    if second == 1 {
-        fill_either(alone, p, n, a, a);
-        return;
-    }
-    fill_same(alone, p, n, 0);
 }
 
 // The entries of a value: the strings that are one value with string v.
@@ -223,29 +180,19 @@ fn fill_equal(
 {
     let own = strings::text(bytes, ends, v as usize);
     let first = lead(own);
-    let to = p as usize * 512;
-    let mut k: usize = 0;
-    while k < ends.len() {
-        let x = equal_at(bytes, ends, leads, datatype, own, first, k);
-        alone[to + k] = x;
-        k += 1;
-    }
+    fill_by(alone, p, ends.len(), |k| {
+        equal_at(bytes, ends, leads, datatype, own, first, k)
+    });
 }
 
 // Whether row q comes before row p and is the same value.
 fn is_same_row(schema: &[u32], q: u32, p: u32) -> bool
     ensures { result ≡ true → SameRow schema.now q p }
 {
-    if p <= q {
-        return false;
-    }
-    if schema::kind(schema, q) != schema::VALUE {
-        return false;
-    }
-    if schema::field_a(schema, q) != schema::field_a(schema, p) {
-        return false;
-    }
-    schema::field_b(schema, q) == schema::field_b(schema, p)
+    q < p
+        && schema::kind(schema, q) == schema::VALUE
+        && schema::field_a(schema, q) == schema::field_a(schema, p)
+        && schema::field_b(schema, q) == schema::field_b(schema, p)
 }
 
 // Where the row of a datatype and a string is noted.
@@ -277,10 +224,10 @@ fn fill_value(
     let q = noted[at];
     if is_same_row(schema, q, p) {
         fill_either(alone, p, ends.len(), q, q);
-        return;
+    } else {
+        noted[at] = p;
+        fill_equal(bytes, ends, leads, alone, p, a, b);
     }
-    noted[at] = p;
-    fill_equal(bytes, ends, leads, alone, p, a, b);
 }
 
 // Whether the tokens of string k match the pattern at row a.
@@ -292,15 +239,12 @@ fn list_entry(
     nothing: &[u8],
     a: u32,
     k: usize,
-) -> u8
+) -> bool
     requires { ListReady (string_table bytes.now ends.now) schema.now places.now nothing.now a }
-    ensures { TokensTo (string_table bytes.now ends.now) schema.now a k result }
+    ensures { TokensTo (string_table bytes.now ends.now) schema.now a k (mark result) }
 {
     let text = strings::text(bytes, ends, k);
-    if matching_tokens::tokens_match(bytes, ends, schema, places, nothing, text, a) {
-        return 1;
-    }
-    0
+    matching_tokens::tokens_match(bytes, ends, schema, places, nothing, text, a)
 }
 
 // The entries of the list at row p: the strings whose tokens match its pattern, at row a.
@@ -320,13 +264,9 @@ fn fill_list(
 {
     let mut places = [0u32; strings::MAX_STRINGS * 2];
     matching_tokens::find_tokens(bytes, ends, &mut places);
-    let to = p as usize * 512;
-    let mut k: usize = 0;
-    while k < ends.len() {
-        let v = list_entry(bytes, ends, schema, &places, nothing, a, k);
-        alone[to + k] = v;
-        k += 1;
-    }
+    fill_by(alone, p, ends.len(), |k| {
+        list_entry(bytes, ends, schema, &places, nothing, a, k)
+    });
 }
 
 // The entries of the row of pattern p.
@@ -357,6 +297,7 @@ fn fill_row(
         schema::LIST => fill_list(bytes, ends, schema, alone, nothing, p, a),
         schema::ONE_OR_MORE => fill_either(alone, p, n, a, a),
         schema::CHOICE => fill_either(alone, p, n, a, b),
+        // An arm for each kind: with one for both the proof has no name for what the last arm is not.
         schema::GROUP => fill_one(alone, nothing, p, n, a, b),
         schema::INTERLEAVE => fill_one(alone, nothing, p, n, a, b),
         _ => fill_same(alone, p, n, 0),
@@ -379,23 +320,11 @@ fn fill_rows(
     let mut leads = [0u8; 512];
     fill_leads(bytes, ends, &mut leads);
     let mut noted = [0u32; 1024];
-    let mut p: u32 = 0;
-    while p < rows {
+    for p in 0..rows {
         let v = nothing_at(schema, nothing, p);
         fill_row(bytes, ends, schema, &leads, alone, nothing, &mut noted, p);
-        nothing[p as usize] = v;
-        p += 1;
+        nothing[p as usize] = u8::from(v);
     }
-}
-
-fn blank_at(bytes: &[u8], ends: &[u32], k: u32) -> u8
-    ensures { (result ≡ 1) ↔ (whitespace (text_of (string_table bytes.now ends.now) k) ≡ true) }
-{
-    let text = strings::text(bytes, ends, k as usize);
-    if datatypes::is_whitespace(text) {
-        return 1;
-    }
-    0
 }
 
 // The strings that are whitespace.
@@ -403,11 +332,8 @@ fn fill_blank(bytes: &[u8], ends: &[u32], blank: &mut [u8])
     requires { (length ends.now ≤ 512) × (512 ≤ length blank.old) }
     ensures { Blank (string_table bytes.now ends.now) blank.new }
 {
-    let mut k: u32 = 0;
-    while (k as usize) < ends.len() {
-        let v = blank_at(bytes, ends, k);
-        blank[k as usize] = v;
-        k += 1;
+    for k in 0..ends.len() {
+        blank[k] = u8::from(datatypes::is_whitespace(strings::text(bytes, ends, k)));
     }
 }
 

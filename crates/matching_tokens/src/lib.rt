@@ -87,7 +87,8 @@ fn fits(bytes: &[u8], ends: &[u32], schema: &[u32], places: &[u32], p: u32, toke
     }
 }
 
-fn is_marked(marks: &[u8], p: u32) -> bool
+// Whether row p has a mark.
+pub fn is_marked(marks: &[u8], p: u32) -> bool
     ensures { result ≡ marked marks.now p }
 {
     tables::at(marks, p as usize) == 1

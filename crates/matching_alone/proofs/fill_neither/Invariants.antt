@@ -1,11 +1,7 @@
 -- The first k entries are told by row a, which is as it was.
 use Rattle.matching_alone.specs.Rows.{NotOf}
-use Prim.Native.Nat.{◌-◌, ◌≤◌}
 use Rattle.matching_alone.specs.Rows.{RowOf}
 use Rattle.matching_alone.proofs.fill_neither.Given as goal
 
 abbrev pub invariant-loop-k : goal.invariant-loop-k
-invariant-loop-k l = (l.k ≤ l.n) × RowOf (NotOf l.initial.alone l.a) l.initial.alone l.alone l.p l.k
-
-abbrev pub decreases-loop-k : goal.decreases-loop-k
-decreases-loop-k l = l.n - l.k
+invariant-loop-k l = RowOf (NotOf l.initial.alone l.a) l.initial.alone l.alone l.p l.k

@@ -9,8 +9,8 @@ returns-then-is_same_row c =
     λ nothing e. made_same (string_table a.bytes.now a.ends.now) a.schema.now a.alone.now
     nothing a.p e (c.is_same_row.ensures c.if-is_same_row.true) c.fill_either.ensures
 
-pub returns : goal.returns
-returns c =
+pub returns-else-is_same_row : goal.returns-else-is_same_row
+returns-else-is_same_row c =
     let a = c.args in
     λ nothing e. made_value (string_table a.bytes.now a.ends.now) a.schema.now a.alone.now
     nothing a.p c.field_a-a.ensures c.field_b-b.ensures e c.fill_equal.ensures
