@@ -6,9 +6,9 @@ use mathlib.Core.Bool.{true, false, false≢true}
 use mathlib.Core.Logic.{◌≢◌, ◌⊎◌, inl, inr}
 use mathlib.Core.List.{List}
 use Prim.Native.Nat.{ℕ}
-use Rattle.tables.specs.Refusals.{goes_on}
+use Rattle.std.specs.Prelude.{Ok}
+use Rattle.tables.specs.Codes.{goes_on}
 use Rattle.tables.proofs.Booleans.{is_false}
-use Rattle.tables.specs.declared.Verdict.TheVariants.{Passed}
 use Rattle.schema.specs.Kinds as kind
 use Rattle.schema.specs.Rows.{kind_of, child_a, child_b}
 use Rattle.schema.specs.Relations.{Below, Occurs}
@@ -20,7 +20,7 @@ use Rattle.schema_occurrences.specs.Interleaves.{class_referred, same_element, t
 use Rattle.schema_restrictions.specs.Schema.{SchemaVerdict, SchemaPasses}
 use Rattle.schema_restrictions.proofs.Outside.{below_parent, whole_outside}
 
-pub passes : {strings : ℕ} {s : List ℕ} → SchemaVerdict strings s Passed → SchemaPasses strings s
+pub passes : {strings : ℕ} {s : List ℕ} → SchemaVerdict strings s (Ok tt) → SchemaPasses strings s
 passes (goes_on rows (goes_on places
     (goes_on names (goes_on paths (goes_on sequences (goes_on attributes (goes_on interleaves e))))))) = record {
       rows = rows;

@@ -1,7 +1,8 @@
 -- Codes 2 to 8 in their order.
-use Rattle.std.specs.Prelude.{ℕ, List}
-use Rattle.tables.specs.Refusals.{Tries, Passes}
-use Rattle.tables.specs.declared.Verdict.{Verdict}
+use Rattle.std.specs.Prelude.{ℕ, List, Result}
+use Rattle.tables.specs.Codes.{Tries, Passes}
+use Rattle.tables.specs.declared.refusals.Code.TheVariants.{Rows, Places, Names, Paths, Content, Attributes, Interleaves}
+use Rattle.tables.specs.declared.refusals.Refusal.{Refusal}
 use Rattle.schema.specs.RowRule.{RowFault, RowsRight}
 use Rattle.schema_places.specs.Places.{PlaceFault}
 use Rattle.schema_places.specs.Names.{NameFault}
@@ -11,18 +12,18 @@ use Rattle.schema_occurrences.specs.Attributes.{AttributeFault}
 use Rattle.schema_occurrences.specs.Interleaves.{InterleaveFault}
 
 -- codes 2 to 8 over the rows of a schema beside so many strings, and after them what next says
-abbrev pub SchemaTries : ℕ → List ℕ → (Verdict → Type 0) → Verdict → Type 0
+abbrev pub SchemaTries : ℕ → List ℕ → (Result Unit Refusal → Type 0) → Result Unit Refusal → Type 0
 SchemaTries strings s next =
-    Tries 2 (RowFault strings s)
-    (Tries 3 (PlaceFault s)
-    (Tries 4 (NameFault s)
-    (Tries 5 (PathFault s)
-    (Tries 6 (SequenceFault s)
-    (Tries 7 (AttributeFault s)
-    (Tries 8 (InterleaveFault s) next))))))
+    Tries Rows (RowFault strings s)
+    (Tries Places (PlaceFault s)
+    (Tries Names (NameFault s)
+    (Tries Paths (PathFault s)
+    (Tries Content (SequenceFault s)
+    (Tries Attributes (AttributeFault s)
+    (Tries Interleaves (InterleaveFault s) next))))))
 
 -- the verdict on them alone
-abbrev pub SchemaVerdict : ℕ → List ℕ → Verdict → Type 0
+abbrev pub SchemaVerdict : ℕ → List ℕ → Result Unit Refusal → Type 0
 SchemaVerdict strings s = SchemaTries strings s Passes
 
 -- no code from 2 to 8 finds a fault
