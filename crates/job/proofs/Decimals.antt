@@ -3,7 +3,7 @@ use mathlib.Core.Path.{◌≡◌, refl, ◌∙◌, ap, subst}
 use mathlib.Core.Logic.{◌⊎◌, inl, inr, ⊎_elim}
 use mathlib.Core.Bool.{Bool, true, false, cond, ◌&&◌}
 use mathlib.Core.List.{List, [], ◌∷◌, ◌++◌}
-use mathlib.Core.Option.{some}
+use Rattle.std.specs.Prelude.{Some}
 use Prim.Native.Nat.{ℕ, zero, suc, ◌+◌, ◌-◌, ◌*◌, ◌/◌, ◌%◌, ◌^◌, ◌<◌, ◌≤◌}
 use native.Mathlib.Nat.{div-add-mod', pow-suc, eq-zero-or-pos}
 use native.Mathlib.Omega.{arith}
@@ -116,7 +116,7 @@ no_zero : (d : ℕ) (r : List ℕ) → 0 < d → no_leading_zero ((48 + d) ∷ r
 no_zero d [] h = refl
 no_zero d (c ∷ r) h = rw (ne_eqb (48 + d) 48 (λ e. omega arith))
 
-number_written : {n : ℕ} {l : List ℕ} → WrittenDecimal n l → n ≤ largest_number → number_of l ≡ some n
+number_written : {n : ℕ} {l : List ℕ} → WrittenDecimal n l → n ≤ largest_number → number_of l ≡ Some n
 number_written {n} {l} w h =
     rw (
       ap no_leading_zero w.is ∙ no_zero w.first w.rest w.above,
@@ -134,21 +134,21 @@ word_written : {n : ℕ} {l : List ℕ} → WrittenDecimal n l → word_of l ≡
 word_written w = rw w.is (word_digit w.first w.rest)
 
 -- a number that was written reads back
-pub number_back : (n : ℕ) → n ≤ largest_number → number_of (decimal n) ≡ some n
+pub number_back : (n : ℕ) → n ≤ largest_number → number_of (decimal n) ≡ Some n
 unfolding decimal_by
 number_back n h = ⊎_elim (λ e. rw e refl) (λ p. number_written (written 9 n p (omega arith)) h) (eq-zero-or-pos n)
 
-word_decimal : (n : ℕ) → n ≤ largest_number → word_of (decimal n) ≡ some n
+word_decimal : (n : ℕ) → n ≤ largest_number → word_of (decimal n) ≡ Some n
 unfolding decimal_by
 word_decimal n h =
     ⊎_elim (λ e. rw e refl)
     (λ p. let w = written 9 n p (omega arith) in word_written w ∙ number_written w h) (eq-zero-or-pos n)
 
 -- and so does a word
-pub word_back : (w : ℕ) → w ≤ largest_word → word_of (word_text w) ≡ some w
+pub word_back : (w : ℕ) → w ≤ largest_word → word_of (word_text w) ≡ Some w
 word_back w h = go (eqb w largest_word) refl
   where
-    go : (b : Bool) → eqb w largest_word ≡ b → word_of (word_text w) ≡ some w
+    go : (b : Bool) → eqb w largest_word ≡ b → word_of (word_text w) ≡ Some w
     go true e = let f : w ≡ largest_word = eqb-true w largest_word e in rw f refl
     go false e = let f = eqb-false w largest_word e in rw e (word_decimal w (omega arith))
 

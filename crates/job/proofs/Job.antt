@@ -2,7 +2,7 @@
 use mathlib.Core.Path.{◌≡◌, refl, sym, ◌∙◌, ap, ap₂}
 use mathlib.Core.Bool.{Bool, true, not, ◌&&◌, true≢false}
 use mathlib.Core.List.{List, [], ◌∷◌, ◌++◌, append-nil, append_assoc}
-use mathlib.Core.Option.{some}
+use Rattle.std.specs.Prelude.{Some}
 use Prim.Native.Nat.{ℕ, zero, suc, ◌+◌, ◌-◌, ◌*◌, ◌%◌, ◌<◌, ◌≤◌}
 use native.Mathlib.Nat.{add-zero, zero-add}
 use native.Mathlib.Omega.{arith}
@@ -45,7 +45,7 @@ module _ (T : StringTable) (right : StringsRight T) where
   before j = tables_of (string_table (take (start_of T.ends j) T.bytes) (take j T.ends)) [] []
 
   add_back : (j : ℕ) → Bytes T.bytes → j < length T.ends
-      → add_string (before j) (ascii "s=" ++ hex_text (text_of T j)) ≡ some (before (suc j))
+      → add_string (before j) (ascii "s=" ++ hex_text (text_of T j)) ≡ Some (before (suc j))
   add_back j b h =
       let r = start_before_end (ends_of right) j h in
       let w = end_within (ends_of right) (length T.ends - suc j) j (omega arith) in

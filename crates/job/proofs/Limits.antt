@@ -3,7 +3,7 @@ use Prim.Native.Nat.{ℕ, zero, suc, ◌+◌, ◌*◌, ◌≤◌}
 use mathlib.Core.Path.{◌≡◌, refl, ◌∙◌, ap, subst}
 use mathlib.Core.Bool.{Bool, true, false, cond}
 use mathlib.Core.List.{List, [], ◌∷◌, ◌++◌}
-use mathlib.Core.Option.{Option, none, some}
+use Rattle.std.specs.Prelude.{Option, None, Some}
 use native.Mathlib.Nat.{zero-add}
 use native.Mathlib.Omega.{arith}
 use lib.Dec.{ltb, leb}
@@ -24,32 +24,32 @@ use Rattle.job.specs.Reading.{read_job}
 pub not_wrong : {n : ℕ} {t : Tables} → wrong n ≡ read t → ⊥
 not_wrong e = let z : ◌≡◌ {A = ℕ} 0 1 = cc in omega arith
 
-none_some : {A : Type 0} {a : A} → none ≡ some a → ⊥
+none_some : {A : Type 0} {a : A} → None ≡ Some a → ⊥
 none_some e = let z : ◌≡◌ {A = ℕ} 0 1 = cc in omega arith
 
 -- what came of two steps
 module _ {A B : Type 0} where
-  then_some : (o : Option A) {f : A → Option B} {b : B} → and_then o f ≡ some b → (a : A) × (o ≡ some a)
-      × (f a ≡ some b)
-  then_some none e = absurd (none_some e)
-  then_some (some a) e = (a, refl, e)
+  then_some : (o : Option A) {f : A → Option B} {b : B} → and_then o f ≡ Some b → (a : A) × (o ≡ Some a)
+      × (f a ≡ Some b)
+  then_some None e = absurd (none_some e)
+  then_some (Some a) e = (a, refl, e)
 
 -- a line that was read, and what came after it
 module _ {A : Type 0} {t : Tables} where
   line_read : (holds : List ℕ → Option A) (n : ℕ) (rest : List (List ℕ)) (next : A → ℕ → List (List ℕ) → Reading)
       → line holds n rest next ≡ read t
-      → (l : List ℕ) × (a : A) × (m : ℕ) × (others : List (List ℕ)) × (holds l ≡ some a) × (next a m others ≡ read t)
+      → (l : List ℕ) × (a : A) × (m : ℕ) × (others : List (List ℕ)) × (holds l ≡ Some a) × (next a m others ≡ read t)
   line_read holds n [] next e = absurd (not_wrong e)
   line_read holds n (l ∷ rest) next e = go (holds l) refl e
     where
       go : (o : Option A) → holds l ≡ o → line_by o n rest next ≡ read t → (l : List ℕ) × (a : A)
-          × (m : ℕ) × (others : List (List ℕ)) × (holds l ≡ some a) × (next a m others ≡ read t)
-      go none f g = absurd (not_wrong g)
-      go (some a) f g = (l, a, suc n, rest, f, g)
+          × (m : ℕ) × (others : List (List ℕ)) × (holds l ≡ Some a) × (next a m others ≡ read t)
+      go None f g = absurd (not_wrong g)
+      go (Some a) f g = (l, a, suc n, rest, f, g)
 
 -- so many lines, each of which takes one step of P
 module _ {t : Tables} (P : ℕ → Tables → Type 0) (add : Tables → List ℕ → Option Tables)
-    (step : (k : ℕ) (u v : Tables) (l : List ℕ) → P k u → add u l ≡ some v → P (suc k) v) where
+    (step : (k : ℕ) (u v : Tables) (l : List ℕ) → P k u → add u l ≡ Some v → P (suc k) v) where
   lines_read : (number k : ℕ) (u : Tables) (n : ℕ) (rest : List (List ℕ)) (next : Tables → ℕ → List (List ℕ) → Reading)
       → P k u → lines add number u n rest next ≡ read t
       → (v : Tables) × (m : ℕ) × (others : List (List ℕ)) × P (k + number) v × (next v m others ≡ read t)
@@ -69,17 +69,17 @@ module _ {t : Tables} (P : ℕ → Tables → Type 0) (add : Tables → List ℕ
       (s.0, s.1, s.2, subst (λ (k : ℕ). P k s.0) (zero-add number) s.3, s.4)
 
 -- a count keeps its limit
-pub count_limit : (key : List ℕ) (limit : ℕ) (l : List ℕ) {n : ℕ} → count key limit l ≡ some n → n ≤ limit
+pub count_limit : (key : List ℕ) (limit : ℕ) (l : List ℕ) {n : ℕ} → count key limit l ≡ Some n → n ≤ limit
 count_limit key limit l {n} e =
     let r = then_some (after key l) e in
     let s = then_some (number_of r.0) r.2 in
     go s.0 (leb s.0 limit) refl s.2
   where
-    go : (m : ℕ) (b : Bool) → leb m limit ≡ b → cond b (some m) none ≡ some n → n ≤ limit
+    go : (m : ℕ) (b : Bool) → leb m limit ≡ b → cond b (Some m) None ≡ Some n → n ≤ limit
     go m true f g = let z : m ≡ n = cc g in let h = leb-true m limit f in omega arith
     go m false f g = absurd (none_some g)
 
-words_length : (n : ℕ) (fields : List (List ℕ)) {ws : List ℕ} → words_of n fields ≡ some ws → length ws ≡ n
+words_length : (n : ℕ) (fields : List (List ℕ)) {ws : List ℕ} → words_of n fields ≡ Some ws → length ws ≡ n
 words_length zero [] {ws} e = let z : ws ≡ [] = cc e in ap length z
 words_length zero (f ∷ fields) e = absurd (none_some e)
 words_length (suc n) [] e = absurd (none_some e)
@@ -90,7 +90,7 @@ words_length (suc n) (f ∷ fields) {ws} e =
     ap length z ∙ let i = words_length n fields s.1 in omega arith
 
 pub row_length : (key : List ℕ) (width : ℕ) (l : List ℕ) {row : List ℕ}
-    → row_of key width l ≡ some row → length row ≡ width
+    → row_of key width l ≡ Some row → length row ≡ width
 row_length key width l e = let r = then_some (after key l) e in words_length width (fields_of r.0) r.2
 
 -- how long the tables are
@@ -100,16 +100,16 @@ pub record Lengths (strings rows nodes : ℕ) (t : Tables) : Type 0 where
   pub of_schema : length t.schema ≡ 3 * rows
   pub of_instance : length t.instance ≡ 5 * nodes
 
-string_step : (k : ℕ) (u v : Tables) (l : List ℕ) → Lengths k 0 0 u → add_string u l ≡ some v → Lengths (suc k) 0 0 v
+string_step : (k : ℕ) (u v : Tables) (l : List ℕ) → Lengths k 0 0 u → add_string u l ≡ Some v → Lengths (suc k) 0 0 v
 string_step k u v l p e =
     let r = then_some (after (ascii "s=") l) e in
     let s = then_some (hex_bytes r.0) r.2 in
     go s.0 (leb (length u.strings.bytes + length s.0) max_bytes) refl s.2
   where
     go : (text : List ℕ) (b : Bool) → leb (length u.strings.bytes + length text) max_bytes ≡ b
-        → cond b (some (tables_of (string_table (u.strings.bytes ++ text)
-        (u.strings.ends ++ (length u.strings.bytes + length text) ∷ [])) u.schema u.instance)) none
-        ≡ some v → Lengths (suc k) 0 0 v
+        → cond b (Some (tables_of (string_table (u.strings.bytes ++ text)
+        (u.strings.ends ++ (length u.strings.bytes + length text) ∷ [])) u.schema u.instance)) None
+        ≡ Some v → Lengths (suc k) 0 0 v
     go text true f g =
         let z : tables_of (string_table (u.strings.bytes ++ text) (u.strings.ends
         ++ (length u.strings.bytes + length text) ∷ [])) u.schema u.instance ≡ v = cc g in
@@ -126,7 +126,7 @@ string_step k u v l p e =
     go text false f g = absurd (none_some g)
 
 row_step : (strings : ℕ) (k : ℕ) (u v : Tables) (l : List ℕ)
-    → Lengths strings k 0 u → add_row u l ≡ some v → Lengths strings (suc k) 0 v
+    → Lengths strings k 0 u → add_row u l ≡ Some v → Lengths strings (suc k) 0 v
 row_step strings k u v l p e =
     let r = then_some (row_of (ascii "row=") 3 l) e in
     let z : tables_of u.strings (u.schema ++ r.0) u.instance ≡ v = cc r.2 in
@@ -141,7 +141,7 @@ row_step strings k u v l p e =
     })
 
 node_step : (strings rows : ℕ) (k : ℕ) (u v : Tables) (l : List ℕ)
-    → Lengths strings rows k u → add_node u l ≡ some v → Lengths strings rows (suc k) v
+    → Lengths strings rows k u → add_node u l ≡ Some v → Lengths strings rows (suc k) v
 node_step strings rows k u v l p e =
     let r = then_some (row_of (ascii "node=") 5 l) e in
     let z : tables_of u.strings u.schema (u.instance ++ r.0) ≡ v = cc r.2 in

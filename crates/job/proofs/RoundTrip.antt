@@ -1,7 +1,7 @@
 -- A job that was written reads back the same.
 use mathlib.Core.Path.{◌≡◌, ◌∙◌, ap, ap₂}
 use mathlib.Core.List.{List, [], ◌∷◌, ◌++◌}
-use mathlib.Core.Option.{Option, some}
+use Rattle.std.specs.Prelude.{Option, Some}
 use Prim.Native.Nat.{ℕ, zero, suc, ◌+◌, ◌*◌, ◌≤◌}
 use native.Mathlib.Nat.{suc-mul, zero-mul, zero-add}
 use native.Mathlib.Omega.{arith}
@@ -18,7 +18,7 @@ use Rattle.job.proofs.Texts.{after_back, words_back}
 
 -- a count
 pub count_back : (key : List ℕ) (limit n : ℕ) → n ≤ limit
-    → limit ≤ largest_number → count key limit (key ++ decimal n) ≡ some n
+    → limit ≤ largest_number → count key limit (key ++ decimal n) ≡ Some n
 count_back key limit n h k = rw (after_back key (decimal n), number_back n (omega arith), le-leb n limit h)
 
 -- parts of words
@@ -44,13 +44,13 @@ bytes_drop (suc n) (w ∷ l) h = bytes_drop n l h.1
 
 -- a row
 row_back : (key : List ℕ) (width : ℕ) (row : List ℕ) → length row ≡ suc width
-    → Words row → row_of key (suc width) (key ++ words_text row) ≡ some row
+    → Words row → row_of key (suc width) (key ++ words_text row) ≡ Some row
 row_back key width row e h = rw (after_back key (words_text row), words_back row width e h)
 
 -- so many rows, each added to a table that is a part of the tables
 module _ (add : Tables → List ℕ → Option Tables) (key : List ℕ) (width : ℕ) (with : Tables → List ℕ → Tables)
     (adds : (t : Tables) (row : List ℕ) → length row ≡ suc width
-    → Words row → add t (key ++ words_text row) ≡ some (with t row))
+    → Words row → add t (key ++ words_text row) ≡ Some (with t row))
     (more : (t : Tables) (a b : List ℕ) → with (with t a) b ≡ with t (a ++ b))
     (none : (t : Tables) → with t [] ≡ t) where
   pub rows_back : (n : ℕ) (t : Tables) (k : ℕ) (table : List ℕ) (rest : List (List ℕ))
@@ -77,9 +77,9 @@ abbrev pub with_node : Tables → List ℕ → Tables
 with_node t row = tables_of t.strings t.schema (t.instance ++ row)
 
 pub schema_back : (t : Tables) (row : List ℕ) → length row ≡ 3 → Words row
-    → add_row t (ascii "row=" ++ words_text row) ≡ some (with_row t row)
+    → add_row t (ascii "row=" ++ words_text row) ≡ Some (with_row t row)
 schema_back t row e h = rw (row_back (ascii "row=") 2 row e h)
 
 pub instance_back : (t : Tables) (row : List ℕ) → length row ≡ 5 → Words row
-    → add_node t (ascii "node=" ++ words_text row) ≡ some (with_node t row)
+    → add_node t (ascii "node=" ++ words_text row) ≡ Some (with_node t row)
 instance_back t row e h = rw (row_back (ascii "node=") 4 row e h)

@@ -3,7 +3,7 @@ use mathlib.Core.Path.{◌≡◌, refl, ◌∙◌, ap}
 use mathlib.Core.Logic.{◌≢◌, ⊎_elim}
 use mathlib.Core.Bool.{Bool, true, false, false≢true}
 use mathlib.Core.List.{List, [], ◌∷◌, ◌++◌, map}
-use mathlib.Core.Option.{some}
+use Rattle.std.specs.Prelude.{Some}
 use Prim.Native.Nat.{ℕ, suc, ◌+◌, ◌-◌, ◌*◌, ◌/◌, ◌%◌, ◌<◌, ◌≤◌}
 use native.Mathlib.Nat.{div-add-mod'}
 use native.Mathlib.Omega.{arith}
@@ -93,7 +93,7 @@ lines_ended l (m ∷ lines) =
     (ended_more (line_feed ∷ []) (text_of_lines (m ∷ lines)) (lines_ended m lines))
 
 -- keys
-pub after_back : (key l : List ℕ) → after key (key ++ l) ≡ some l
+pub after_back : (key l : List ℕ) → after key (key ++ l) ≡ Some l
 after_back [] l = refl
 after_back (k ∷ key) l = rw (eq-eqb k k refl) (after_back key l)
 
@@ -113,25 +113,25 @@ fields_back w (v ∷ ws) =
     ∙ ap (λ r. word_text w ∷ r) (fields_back v ws)
 
 -- words
-words_of_lem : (ws : List ℕ) → Words ws → words_of (length ws) (map word_text ws) ≡ some ws
+words_of_lem : (ws : List ℕ) → Words ws → words_of (length ws) (map word_text ws) ≡ Some ws
 words_of_lem [] h = refl
 words_of_lem (w ∷ ws) h = rw (word_back w h.0, words_of_lem ws h.1)
 
 pub words_back : (ws : List ℕ) (n : ℕ) → length ws ≡ suc n
-    → Words ws → words_of (suc n) (fields_of (words_text ws)) ≡ some ws
+    → Words ws → words_of (suc n) (fields_of (words_text ws)) ≡ Some ws
 words_back [] n e h = absurd (omega arith)
 words_back (w ∷ ws) n e h = rw (← e, fields_back w ws) (words_of_lem (w ∷ ws) h)
 
 -- hexadecimal digits
-hex_back : (n : ℕ) → n < 16 → hex_value (hex_digit n) ≡ some n
+hex_back : (n : ℕ) → n < 16 → hex_value (hex_digit n) ≡ Some n
 hex_back n h = ⊎_elim digit letter (lt_or_ge n 10)
   where
-    digit : n < 10 → hex_value (hex_digit n) ≡ some n
+    digit : n < 10 → hex_value (hex_digit n) ≡ Some n
     digit l =
         let e : 48 + n - 48 ≡ n = omega arith in
         rw (lt-ltb n 10 l, le-leb 48 (48 + n) (omega arith), le-leb (48 + n) 57 (omega arith), e)
 
-    letter : 10 ≤ n → hex_value (hex_digit n) ≡ some n
+    letter : 10 ≤ n → hex_value (hex_digit n) ≡ Some n
     letter l =
         let e : 87 + n - 87 ≡ n = omega arith in
         rw (
@@ -143,7 +143,7 @@ hex_back n h = ⊎_elim digit letter (lt_or_ge n 10)
           e,
         )
 
-pub bytes_back : (bytes : List ℕ) → Bytes bytes → hex_bytes (hex_text bytes) ≡ some bytes
+pub bytes_back : (bytes : List ℕ) → Bytes bytes → hex_bytes (hex_text bytes) ≡ Some bytes
 bytes_back [] h = refl
 bytes_back (b ∷ bytes) h =
     let l = h.0 in

@@ -1,6 +1,6 @@
 -- Lines ended by LF, and the parts of a line.
 use Rattle.std.specs.Prelude.{ℕ, Bool, false, cond, List, [], ◌∷◌, ◌++◌, eqb}
-use Rattle.std.proofs.Math.Option.{Option, none, some}
+use Rattle.std.specs.Prelude.{Option, None, Some}
 
 abbrev pub line_feed : ℕ
 line_feed = 10
@@ -36,6 +36,6 @@ fields_of (c ∷ line) = cond (eqb c comma) ([] ∷ fields_of line) (in_front c 
 
 -- what follows a key at the front of a line
 abbrev pub after : List ℕ → List ℕ → Option (List ℕ)
-after [] line = some line
-after (k ∷ key) [] = none
-after (k ∷ key) (c ∷ line) = cond (eqb c k) (after key line) none
+after [] line = Some line
+after (k ∷ key) [] = None
+after (k ∷ key) (c ∷ line) = cond (eqb c k) (after key line) None

@@ -1,7 +1,7 @@
 -- Numbers and strings in a job file: decimal words, with `-` for the largest, and pairs of hexadecimal digits.
 use Rattle.std.specs.Prelude.{ℕ, zero, suc, ◌+◌, ◌-◌, ◌*◌, ◌/◌, ◌%◌, ◌≤◌, ◌<◌, Bool, true, false, not, cond, ◌&&◌, List}
 use Rattle.std.specs.Prelude.{[], ◌∷◌, ◌++◌, ltb, leb, eqb}
-use Rattle.std.proofs.Math.Option.{Option, none, some}
+use Rattle.std.specs.Prelude.{Option, None, Some}
 
 -- `-` of FORMAT, "Job file", and the largest number that is written in digits
 abbrev pub largest_word : ℕ
@@ -69,26 +69,26 @@ is_number l = no_leading_zero l && all_digits l && leb (value_from 0 l) largest_
 
 -- the number that a text is, if it is one
 abbrev pub number_of : List ℕ → Option ℕ
-number_of l = cond (is_number l) (some (value_from 0 l)) none
+number_of l = cond (is_number l) (Some (value_from 0 l)) None
 
 -- the word that a text is: a number, or `-`
 abbrev pub word_of : List ℕ → Option ℕ
-word_of [] = none
-word_of (c ∷ []) = cond (eqb c 45) (some largest_word) (number_of (c ∷ []))
+word_of [] = None
+word_of (c ∷ []) = cond (eqb c 45) (Some largest_word) (number_of (c ∷ []))
 word_of (c ∷ d ∷ l) = number_of (c ∷ d ∷ l)
 
 -- the value of a lower-case hexadecimal digit
 abbrev pub hex_value : ℕ → Option ℕ
-hex_value c = cond (is_digit c) (some (c - 48)) (cond (leb 97 c && leb c 102) (some (c - 87)) none)
+hex_value c = cond (is_digit c) (Some (c - 48)) (cond (leb 97 c && leb c 102) (Some (c - 87)) None)
 
 abbrev pub hex_pair : Option ℕ → Option ℕ → Option (List ℕ) → Option (List ℕ)
-hex_pair none low rest = none
-hex_pair (some h) none rest = none
-hex_pair (some h) (some l) none = none
-hex_pair (some h) (some l) (some bytes) = some ((h * 16 + l) ∷ bytes)
+hex_pair None low rest = None
+hex_pair (Some h) None rest = None
+hex_pair (Some h) (Some l) None = None
+hex_pair (Some h) (Some l) (Some bytes) = Some ((h * 16 + l) ∷ bytes)
 
 -- the bytes that pairs of hexadecimal digits are
 abbrev pub hex_bytes : List ℕ → Option (List ℕ)
-hex_bytes [] = some []
-hex_bytes (h ∷ []) = none
+hex_bytes [] = Some []
+hex_bytes (h ∷ []) = None
 hex_bytes (h ∷ l ∷ rest) = hex_pair (hex_value h) (hex_value l) (hex_bytes rest)
