@@ -1,34 +1,39 @@
--- A key at the front of a line: what a loop over its bytes finds.
-use mathlib.Core.Path.{◌≡◌, sym, ◌∙◌, ap}
+-- A key at the front of a line: what follows it, as the library strips it.
+use mathlib.Core.Path.{◌≡◌, refl, ◌∙◌, ap}
 use mathlib.Core.Logic.{◌≢◌}
-use mathlib.Core.List.{List}
-use mathlib.Core.Option.{none, some}
-use Prim.Native.Nat.{ℕ, ◌+◌, ◌-◌, ◌≤◌, ◌<◌}
-use native.Mathlib.Omega.{arith}
-use lib.ListN.{length, drop, get_or, length-drop, drop_of_length-le}
-use lib.Seq.{take_all}
-use borrow.Author.Tests.{eq-eqb, ne_eqb}
-use Rattle.tables.specs.Place.{between}
+use mathlib.Core.Bool.{Bool, true, false, cond}
+use mathlib.Core.List.{List, [], ◌∷◌, ◌++◌}
+use Prim.Native.Nat.{ℕ, ◌+◌}
+use lib.ListN.{length, take, drop}
+use lib.Dec.{eqb}
+use denote.Ref.{Bor}
+use borrow.Author.Tests.{eqb-true}
+use Rattle.std.specs.Prelude.{Option, None, Some, MatchOption}
+use Rattle.std.specs.Cmp.Lexicographic.{pointwise}
+use Rattle.std.proofs.lemmas.Bool.Decides.{Decides-eqb}
+use Rattle.std.proofs.lemmas.Slice.Eq.{strip_prefix_is}
 use Rattle.job.specs.Lines.{after}
-use Rattle.job_lines.specs.Parts.{KeyTo}
-use Rattle.tables.proofs.Parts.{drop_one}
+use Rattle.job.proofs.Texts.{after_back}
 
-module _ (key line : List ℕ) (i : ℕ) where
-  pub key_more : i < length key → i < length line → get_or line i 0 ≡ get_or key i 0
-      → after (drop i key) (drop i line) ≡ after (drop (i + 1) key) (drop (i + 1) line)
-  key_more h l e = rw (drop_one key i h, drop_one line i l, eq-eqb (get_or line i 0) (get_or key i 0) e)
+no_key : (key line : List ℕ) → ((rest : List ℕ) → line ≢ key ++ rest) → after key line ≡ None
+no_key [] line n = absurd (n line refl)
+no_key (k ∷ key) [] n = refl
+no_key (k ∷ key) (c ∷ line) n = go (eqb c k) refl (no_key key line)
+  where
+    go : (t : Bool) → eqb c k ≡ t → (((rest : List ℕ) → line ≢ key ++ rest) → after key line ≡ None)
+        → cond t (after key line) None ≡ None
+    go true e more = more (λ rest q. n rest (let f = eqb-true c k e in rw (f, q)))
+    go false e more = refl
 
-  pub key_differs : i < length key → i < length line
-      → get_or line i 0 ≢ get_or key i 0 → after (drop i key) (drop i line) ≡ none
-  key_differs h l n = rw (drop_one key i h, drop_one line i l, ne_eqb (get_or line i 0) (get_or key i 0) n)
-
-  pub key_beyond : i < length key → length line ≤ i → after (drop i key) (drop i line) ≡ none
-  key_beyond h l = rw (drop_one key i h, drop_of_length-le line l)
-
-  pub key_done : length key ≤ i → after (drop i key) (drop i line) ≡ some (drop i line)
-  key_done h = ap (λ (k : List ℕ). after k (drop i line)) (drop_of_length-le key h)
-
--- what follows the key, as a part of the line up to its end
-pub key_rest : {key line : List ℕ} {p : ℕ} → KeyTo key line p → after key line ≡ some (between line p (length line))
-key_rest {key} {line} {p} k =
-    k.is ∙ ap some (sym (take_all (length line - p) (drop p line) (simp length-drop (omega arith))))
+-- the line stripped of the key is what follows the key
+pub stripped : (key line : List ℕ) (o : Option (Bor (List ℕ)))
+    → MatchOption o (pointwise eqb (take (length key) line) key ≡ false)
+    (λ x. (pointwise eqb (take (length key) line) key ≡ true) × (x.now ≡ drop (length key) line)
+    × (length x.now + length key ≡ length line))
+    → MatchOption o (after key line ≡ None) (λ x. after key line ≡ Some x.now)
+stripped key line o h = go o (strip_prefix_is Decides-eqb line key o h)
+  where
+    go : (o : Option (Bor (List ℕ))) → MatchOption o ((rest : List ℕ) → line ≢ key ++ rest) (λ x. line ≡ key ++ x.now)
+        → MatchOption o (after key line ≡ None) (λ x. after key line ≡ Some x.now)
+    go None n = no_key key line n
+    go (Some x) e = ap (after key) e ∙ after_back key x.now

@@ -1,12 +1,12 @@
 -- The loops over the lines of a table: what is read after so many lines.
 use mathlib.Core.Path.{◌≡◌, refl, sym, ◌∙◌, ap}
 use mathlib.Core.List.{List, [], ◌∷◌, ◌++◌}
-use mathlib.Core.Option.{Option, none, some}
+use Rattle.std.specs.Prelude.{Option, None, Some}
 use Prim.Native.Nat.{ℕ, zero, suc, ◌+◌, ◌-◌, ◌*◌, ◌≤◌, ◌<◌}
 use native.Mathlib.Omega.{arith}
 use native.Mathlib.Numerals.{add-one}
 use lib.ListN.{length, drop, set, length-append}
-use lib.Seq.{sets, length-sets}
+use lib.Seq.{sets}
 use Rattle.tables.specs.Tables.{Tables}
 use Rattle.strings.specs.Strings.{max_strings, max_bytes}
 use Rattle.tables.specs.Place.{between}
@@ -35,7 +35,7 @@ module _ (add : Add) where
 
     module _ (l : List ℕ) (rest : List (List ℕ)) where
       pub lines_stop : (left : ℕ) → 0 < left → {ls : List (List ℕ)}
-          → ls ≡ l ∷ rest → add t l ≡ none → lines add left t n ls next ≡ wrong n
+          → ls ≡ l ∷ rest → add t l ≡ None → lines add left t n ls next ≡ wrong n
       unfolding lines
       lines_stop zero h e f = absurd (omega arith)
       lines_stop (suc left) h e f =
@@ -43,7 +43,7 @@ module _ (add : Add) where
           ∙ ap (λ (o : Option Tables). line_by o n rest (λ t n rest. lines add left t n rest next)) f
 
       pub lines_pass : (left : ℕ) → 0 < left → {ls : List (List ℕ)} {t' : Tables} → ls ≡ l ∷ rest
-          → add t l ≡ some t' → lines add left t n ls next ≡ lines add (left - 1) t' (n + 1) rest next
+          → add t l ≡ Some t' → lines add left t n ls next ≡ lines add (left - 1) t' (n + 1) rest next
       unfolding lines
       lines_pass zero h e f = absurd (omega arith)
       lines_pass (suc left) h {ls} {t'} e f =
@@ -66,42 +66,21 @@ pub record StringsRead (strings n : ℕ) (ls : List (List ℕ))
   pub small : used ≤ max_bytes
   pub many : length marks ≡ k
 
-pub strings_none : (strings n at : ℕ) (file bytes ends : List ℕ)
-    → StringsRead strings n (lines_of (drop at file)) file bytes ends bytes ends at 0 0
-strings_none strings n at file bytes ends =
-    let e : strings - 0 ≡ strings = omega arith in
-    let f : n + 0 ≡ n = omega arith in
-    record {
-      text = [];
-      marks = [];
-      passes = λ next. rw (e, f);
-      bytes_hold = refl;
-      ends_hold = refl;
-      size = refl;
-      small = omega arith;
-      many = refl;
-    }
-
 module _ {strings n : ℕ} {ls : List (List ℕ)} {file bytes ends bytes' ends' : List ℕ}
     {at k used : ℕ} (s : StringsRead strings n ls file bytes ends bytes' ends' at k used) where
-  pub bytes_length : length bytes' ≡ length bytes
-  bytes_length = ap length s.bytes_hold ∙ length-sets bytes 0 s.text
-
-  pub ends_length : length ends' ≡ length ends
-  ends_length = ap length s.ends_hold ∙ length-sets ends 0 s.marks
-
-  pub strings_done : strings ≤ k → k ≤ strings → strings ≤ max_strings
-      → StringsTo (read_strings strings n ls) file bytes ends bytes' ends' strings (n + strings) at (n + k) used
-  strings_done h l m = record {
+  pub strings_done : k ≡ strings → strings ≤ max_strings
+      → StringsTo (read_strings strings n ls) file bytes ends bytes' ends' strings (n + strings) at (n + strings) used
+  strings_done e m = record {
     text = s.text;
     marks = s.marks;
     passes = λ next. s.passes next ∙ lines_end add_string (strings - k)
-        (string_tables s.text s.marks) (n + k) (lines_of (drop at file)) next (omega arith);
+        (string_tables s.text s.marks) (n + k) (lines_of (drop at file)) next (omega arith)
+        ∙ ap (λ (i : ℕ). next (string_tables s.text s.marks) (n + i) (lines_of (drop at file))) e;
     bytes_hold = s.bytes_hold;
     ends_hold = s.ends_hold;
     size = s.size;
     small = s.small;
-    many = omega (arith, s.many);
+    many = s.many ∙ e;
     few = m;
     below = omega arith;
   }
@@ -115,13 +94,13 @@ module _ {strings n : ℕ} {ls : List (List ℕ)} {file bytes ends bytes' ends' 
     module _ {e : ℕ} (l : LineTo file at e) where
       adds : {o : Option (List ℕ)} → string_after used (between file at e) ≡ o
           → add_string (string_tables s.text s.marks) (between file at e)
-          ≡ and_then o (λ run. some (with_text (string_tables s.text s.marks) run))
+          ≡ and_then o (λ run. Some (with_text (string_tables s.text s.marks) run))
       adds q =
           string_adds (string_tables s.text s.marks) (between file at e)
-          ∙ ap (λ (o : Option (List ℕ)). and_then o (λ run. some (with_text (string_tables s.text s.marks) run)))
+          ∙ ap (λ (o : Option (List ℕ)). and_then o (λ run. Some (with_text (string_tables s.text s.marks) run)))
           (ap (λ (i : ℕ). string_after i (between file at e)) (sym s.size) ∙ q)
 
-      pub strings_stop : string_after used (between file at e) ≡ none
+      pub strings_stop : string_after used (between file at e) ≡ None
           → (next : Next) → read_strings strings n ls next ≡ wrong (n + k)
       strings_stop q next =
           s.passes next
@@ -184,15 +163,13 @@ rows_none key width rows n at file out =
 
 module _ {key : List ℕ} {width rows n : ℕ} {ls : List (List ℕ)} {file out out' : List ℕ}
     {at k used : ℕ} (s : RowsRead key width rows n ls file out out' at k used) where
-  pub out_length : length out' ≡ length out
-  out_length = ap length s.holds ∙ length-sets out 0 s.words
-
-  pub rows_done : rows ≤ k → k ≤ rows → k ≤ 1024
-      → RowsTo key width (read_rows rows n ls) file out out' (n + rows) at (n + k) used
-  rows_done h l m = record {
+  pub rows_done : k ≡ rows → rows ≤ 1024
+      → RowsTo key width (read_rows rows n ls) file out out' (n + rows) at (n + rows) used
+  rows_done e m = record {
     words = s.words;
     passes = λ {add} {grow} a t next. s.passes a t next
-        ∙ lines_end add (rows - k) (grow t s.words) (n + k) (lines_of (drop at file)) next (omega arith);
+        ∙ lines_end add (rows - k) (grow t s.words) (n + k) (lines_of (drop at file)) next (omega arith)
+        ∙ ap (λ (i : ℕ). next (grow t s.words) (n + i) (lines_of (drop at file))) e;
     holds = s.holds;
     size = s.size;
     small = omega (arith, s.small);
@@ -207,14 +184,14 @@ module _ {key : List ℕ} {width rows n : ℕ} {ls : List (List ℕ)} {file out 
     }
 
     module _ {e : ℕ} (l : LineTo file at e) where
-      pub rows_stop : row_of key width (between file at e) ≡ none → RowsStop key width (read_rows rows n ls) (n + k)
+      pub rows_stop : row_of key width (between file at e) ≡ None → RowsStop key width (read_rows rows n ls) (n + k)
       rows_stop q = record {
         stops = λ {add} {grow} a t next.
             s.passes a t next
             ∙ lines_stop add (grow t s.words) (n + k) next (between file at e)
             (lines_of (drop (e + 1) file)) (rows - k) (omega arith) l.splits
             (a.each (grow t s.words) (between file at e)
-            ∙ ap (λ (o : Option (List ℕ)). and_then o (λ row. some (grow (grow t s.words) row))) q);
+            ∙ ap (λ (o : Option (List ℕ)). and_then o (λ row. Some (grow (grow t s.words) row))) q);
       }
 
       pub rows_more : {out'' : List ℕ} {to : ℕ} → StoredTo (row_of key width (between file at e)) out' used out'' to
@@ -229,7 +206,7 @@ module _ {key : List ℕ} {width rows n : ℕ} {ls : List (List ℕ)} {file out 
                 ∙ lines_pass add (grow t s.words) (n + k) next (between file at e)
                 (lines_of (drop (e + 1) file)) (rows - k) (omega arith) l.splits
                 (a.each (grow t s.words) (between file at e)
-                ∙ ap (λ (o : Option (List ℕ)). and_then o (λ row. some (grow (grow t s.words) row))) r.is)
+                ∙ ap (λ (o : Option (List ℕ)). and_then o (λ row. Some (grow (grow t s.words) row))) r.is)
                 ∙ rw (p, m, a.grow_more t s.words r.run);
             holds =
                 r.stored

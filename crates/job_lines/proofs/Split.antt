@@ -1,129 +1,130 @@
--- A text split at a separator, lines at LF and fields at a comma: what a loop from byte to byte finds.
+-- A text split at a separator, lines at LF and fields at a comma, by where the separator first occurs.
 use mathlib.Core.Path.{◌≡◌, refl, sym, ◌∙◌, ap}
-use mathlib.Core.Logic.{◌≢◌}
-use mathlib.Core.Bool.{Bool, cond}
-use mathlib.Core.List.{List, [], ◌∷◌, ◌++◌, append-nil}
+use mathlib.Core.Bool.{Bool, true, false, not, cond}
+use mathlib.Core.List.{List, [], ◌∷◌}
 use Prim.Native.Nat.{ℕ, suc, ◌+◌, ◌-◌, ◌≤◌, ◌<◌}
 use native.Mathlib.Omega.{arith}
-use lib.ListN.{length, drop, get_or, length-drop, drop_of_length-le}
-use lib.Seq.{take-suc, get_or-drop, append_snoc, length-take-le}
-use lib.Dec.{eqb}
-use borrow.Author.Tests.{eq-eqb, ne_eqb, le-leb, lt-leb}
-use Rattle.tables.specs.Place.{between}
+use lib.ListN.{length, take, drop, get_or, length-drop}
+use lib.Seq.{get_or-drop, drop-drop, take_all}
+use lib.Dec.{eqb, ltb}
+use borrow.Author.Tests.{eqb-true, ltb-true, ltb-false, le-leb, lt-leb}
+use Rattle.std.specs.Prelude.{Some, None}
+use Rattle.std.specs.List.{position, position_or_len}
+use Rattle.std.proofs.lemmas.Option.{cond_some, none-some}
+use Rattle.std.proofs.lemmas.List.Sums.{passes_at_first}
 use Rattle.job.specs.Lines.{in_front, lines_of, fields_of, line_feed, comma}
-use Rattle.tables.proofs.Parts.{drop_one}
 use Rattle.job_lines.specs.Parts.{LineTo, FieldEnd}
 
--- one byte more
-pub between_more : (s : List ℕ) (from i : ℕ) → from ≤ i → i < length s
-    → between s from (i + 1) ≡ between s from i ++ get_or s i 0 ∷ []
-between_more s from i h l =
-    let e : i + 1 - from ≡ suc (i - from) = omega arith in
-    let f : from + (i - from) ≡ i = omega arith in
-    rw e
-    (take-suc (drop from s) (i - from) 0 (simp length-drop (omega arith))
-    ∙ ap (λ (x : ℕ). between s from i ++ x ∷ []) (get_or-drop from s (i - from) 0 ∙ ap (λ (k : ℕ). get_or s k 0) f))
+-- how many bytes stand before the first separator
+abbrev pub before : ℕ → List ℕ → ℕ
+before sep l = position_or_len (λ c. eqb c sep) l
 
--- bytes in front of the first of some runs
-abbrev pub joined : List ℕ → List (List ℕ) → List (List ℕ)
-joined p [] = []
-joined p (l ∷ runs) = (p ++ l) ∷ runs
+-- what a search for the separator says
+found : (sep : ℕ) (l : List ℕ) {i : ℕ} → Some i ≡ position (λ c. eqb c sep) l
+    → (before sep l ≡ i) × (before sep l < length l)
+found sep l {i} e =
+    let p = cond_some (ltb (before sep l) (length l)) (before sep l) i (sym e) in
+    (p.1, ltb-true (before sep l) (length l) p.0)
 
-pub joined_none : (runs : List (List ℕ)) → runs ≡ joined [] runs
-joined_none [] = refl
-joined_none (l ∷ runs) = refl
-
-pub joined_more : (p : List ℕ) (c : ℕ) (runs : List (List ℕ)) → joined p (in_front c runs) ≡ joined (p ++ c ∷ []) runs
-joined_more p c [] = refl
-joined_more p c (l ∷ runs) = ap (λ (x : List ℕ). x ∷ runs) (sym (append_snoc p c l))
-
--- no separator stands from a position up to i
-pub record Scanned (split : List ℕ → List (List ℕ)) (s : List ℕ) (at i : ℕ) : Type 0 where
-  pub from : at ≤ i
-  pub splits : split (drop at s) ≡ joined (between s at i) (split (drop i s))
-
--- nothing is passed yet
-pub scan_none : (split : List ℕ → List (List ℕ)) (s : List ℕ) (at : ℕ) → Scanned split s at at
-scan_none split s at =
-    let e : at - at ≡ 0 = omega arith in
-    record { from = omega arith; splits = rw e (joined_none (split (drop at s))) }
+absent : (sep : ℕ) (l : List ℕ) → None ≡ position (λ c. eqb c sep) l → length l ≤ before sep l
+absent sep l e = go (ltb (before sep l) (length l)) (ltb-false (before sep l) (length l)) e
+  where
+    go : (t : Bool) → (t ≡ false → length l ≤ before sep l) → None ≡ cond t (Some (before sep l)) None
+        → length l ≤ before sep l
+    go true h e = absurd (none-some (before sep l) e)
+    go false h e = h refl
 
 -- split is the splitting at a separator
-pub record Splits (sep : ℕ) (split : List ℕ → List (List ℕ)) : Type 0 where
-  pub on : (c : ℕ) (l : List ℕ) → split (c ∷ l) ≡ cond (eqb c sep) ([] ∷ split l) (in_front c (split l))
-
-pub lines_split : Splits line_feed lines_of
-lines_split = record { on = λ c l. refl }
-
-pub fields_split : Splits comma fields_of
-fields_split = record { on = λ c l. refl }
+record Splits (sep : ℕ) (split : List ℕ → List (List ℕ)) : Type 0 where
+  on : (c : ℕ) (l : List ℕ) → split (c ∷ l) ≡ cond (eqb c sep) ([] ∷ split l) (in_front c (split l))
 
 module _ {sep : ℕ} {split : List ℕ → List (List ℕ)} (rule : Splits sep split) where
-  split_other : {c : ℕ} (l : List ℕ) → c ≢ sep → split (c ∷ l) ≡ in_front c (split l)
-  split_other {c} l n = rule.on c l ∙ ap (λ (b : Bool). cond b ([] ∷ split l) (in_front c (split l))) (ne_eqb c sep n)
+  split_first : (l : List ℕ) → before sep l < length l
+      → split l ≡ take (before sep l) l ∷ split (drop (before sep l + 1) l)
+  split_first [] h = absurd (omega arith)
+  split_first (c ∷ l) h = rule.on c l ∙ go (eqb c sep) h (split_first l)
+    where
+      go : (t : Bool) → cond (not t) (1 + before sep l) 0 < suc (length l)
+          → (before sep l < length l → split l ≡ take (before sep l) l ∷ split (drop (before sep l + 1) l))
+          → cond t ([] ∷ split l) (in_front c (split l)) ≡ take (cond (not t) (1 + before sep l) 0) (c ∷ l)
+          ∷ split (drop (cond (not t) (1 + before sep l) 0 + 1) (c ∷ l))
+      go true h more = refl
+      go false h more =
+          let e : 1 + before sep l ≡ suc (before sep l) = omega arith in
+          let f : suc (before sep l) + 1 ≡ suc (before sep l + 1) = omega arith in
+          rw (e, f, more (omega arith))
 
-  split_same : {c : ℕ} (l : List ℕ) → c ≡ sep → split (c ∷ l) ≡ [] ∷ split l
-  split_same {c} l e = rule.on c l ∙ ap (λ (b : Bool). cond b ([] ∷ split l) (in_front c (split l))) (eq-eqb c sep e)
+-- where there is no separator, there is no line, and one field
+no_lines : (l : List ℕ) → length l ≤ before line_feed l → lines_of l ≡ []
+no_lines [] h = refl
+no_lines (c ∷ l) h = go (eqb c line_feed) h (no_lines l)
+  where
+    go : (t : Bool) → suc (length l) ≤ cond (not t) (1 + before line_feed l) 0
+        → (length l ≤ before line_feed l → lines_of l ≡ [])
+        → cond t ([] ∷ lines_of l) (in_front c (lines_of l)) ≡ []
+    go true h more = absurd (omega arith)
+    go false h more = rw (more (omega arith))
 
-  module _ {s : List ℕ} {at i : ℕ} (scanned : Scanned split s at i) (h : i < length s) where
-    pub scan_more : get_or s i 0 ≢ sep → Scanned split s at (i + 1)
-    scan_more n = record {
-      from = omega (arith, scanned.from);
-      splits =
-          scanned.splits
-          ∙ ap (λ (l : List ℕ). joined (between s at i) (split l)) (drop_one s i h)
-          ∙ ap (joined (between s at i)) (split_other (drop (i + 1) s) n)
-          ∙ joined_more (between s at i) (get_or s i 0) (split (drop (i + 1) s))
-          ∙ ap (λ (p : List ℕ). joined p (split (drop (i + 1) s))) (sym (between_more s at i scanned.from h));
-    }
-
-    pub scan_found : get_or s i 0 ≡ sep → split (drop at s) ≡ between s at i ∷ split (drop (i + 1) s)
-    scan_found e =
-        scanned.splits
-        ∙ ap (λ (l : List ℕ). joined (between s at i) (split l)) (drop_one s i h)
-        ∙ ap (joined (between s at i)) (split_same (drop (i + 1) s) e)
-        ∙ ap (λ (p : List ℕ). p ∷ split (drop (i + 1) s)) (append-nil (between s at i))
+one_field : (l : List ℕ) → length l ≤ before comma l → fields_of l ≡ l ∷ []
+one_field [] h = refl
+one_field (c ∷ l) h = go (eqb c comma) h (one_field l)
+  where
+    go : (t : Bool) → suc (length l) ≤ cond (not t) (1 + before comma l) 0
+        → (length l ≤ before comma l → fields_of l ≡ l ∷ [])
+        → cond t ([] ∷ fields_of l) (in_front c (fields_of l)) ≡ (c ∷ l) ∷ []
+    go true h more = absurd (omega arith)
+    go false h more = rw (more (omega arith))
 
 -- a line: from a position to the first LF, or no line where there is none
-pub line_to : {file : List ℕ} {at i : ℕ} → Scanned lines_of file at i
-    → i < length file → get_or file i 0 ≡ line_feed → LineTo file at i
-line_to {file} scanned h e = record {
-  from = scanned.from;
-  within = h;
-  feed = e;
-  splits = scan_found lines_split scanned h e;
-}
+module _ (file : List ℕ) (at : ℕ) where
+  pub line_to : {i : ℕ} → Some i ≡ position (λ c. eqb c line_feed) (drop at file) → LineTo file at (at + i)
+  line_to {i} s =
+      let p = found line_feed (drop at file) s in
+      let l = length-drop at file in
+      let e : at + i - at ≡ i = omega arith in
+      let f : at + (i + 1) ≡ at + i + 1 = omega arith in
+      record {
+        from = omega arith;
+        within = omega (arith, p.0, p.1);
+        feed = sym (get_or-drop at file i 0) ∙ eqb-true (get_or (drop at file) i 0) line_feed
+            (ap (λ (k : ℕ). eqb (get_or (drop at file) k 0) line_feed) (sym p.0)
+            ∙ passes_at_first (λ c. eqb c line_feed) (drop at file) 0 p.1);
+        splits =
+            split_first {split = lines_of} (record { on = λ c l. refl }) (drop at file) p.1
+            ∙ ap (λ (k : ℕ). take k (drop at file) ∷ lines_of (drop (k + 1) (drop at file))) p.0
+            ∙ rw e (ap (λ (l : List ℕ). take i (drop at file) ∷ lines_of l)
+            (drop-drop (i + 1) at file ∙ ap (λ (k : ℕ). drop k file) f));
+      }
 
-pub no_line : {file : List ℕ} {at i : ℕ} → Scanned lines_of file at i → length file ≤ i → lines_of (drop at file) ≡ []
-no_line {file} {at} {i} scanned h =
-    scanned.splits ∙ ap (λ (l : List ℕ). joined (between file at i) (lines_of l)) (drop_of_length-le file h)
-
-pub line_short : {file : List ℕ} {at e : ℕ} → LineTo file at e → length (between file at e) ≤ length file
-line_short {file} {at} {e} l =
-    omega (
-      arith,
-      l.within,
-      length-take-le (e - at) (drop at file) (simp length-drop (omega (arith, l.from, l.within))),
-    )
+  pub no_line : None ≡ position (λ c. eqb c line_feed) (drop at file) → lines_of (drop at file) ≡ []
+  no_line e = no_lines (drop at file) (absent line_feed (drop at file) e)
 
 -- a field: from a position to the first comma, or to the end of the text
-module _ {text : List ℕ} {at i : ℕ} (scanned : Scanned fields_of text at i) where
-  pub field_to : i < length text → get_or text i 0 ≡ comma → FieldEnd text at i
-  field_to h e = record {
-    from = scanned.from;
-    within = omega arith;
-    splits =
-        rw (le-leb at (length text) (omega (arith, scanned.from)), le-leb (i + 1) (length text) (omega arith))
-        (scan_found fields_split scanned h e);
-  }
+module _ (text : List ℕ) (from : ℕ) (within : from ≤ length text) where
+  pub field_to : {i : ℕ} → Some i ≡ position (λ c. eqb c comma) (drop from text) → FieldEnd text from (from + i)
+  field_to {i} s =
+      let p = found comma (drop from text) s in
+      let l = length-drop from text in
+      let e : from + i - from ≡ i = omega arith in
+      let f : from + (i + 1) ≡ from + i + 1 = omega arith in
+      record {
+        from = omega arith;
+        within = omega (arith, p.0, p.1);
+        splits =
+            rw (le-leb from (length text) within, le-leb (from + i + 1) (length text) (omega (arith, p.0, p.1)))
+            (split_first {split = fields_of} (record { on = λ c l. refl }) (drop from text) p.1
+            ∙ ap (λ (k : ℕ). take k (drop from text) ∷ fields_of (drop (k + 1) (drop from text))) p.0
+            ∙ rw e (ap (λ (l : List ℕ). take i (drop from text) ∷ fields_of l)
+            (drop-drop (i + 1) from text ∙ ap (λ (k : ℕ). drop k text) f)));
+      }
 
-  pub last_field : i ≡ length text → FieldEnd text at i
-  last_field e = record {
-    from = scanned.from;
-    within = omega arith;
-    splits =
-        rw (le-leb at (length text) (omega (arith, scanned.from)), lt-leb (i + 1) (length text) (omega arith))
-        (scanned.splits
-        ∙ ap (λ (l : List ℕ). joined (between text at i) (fields_of l)) (drop_of_length-le text {i = i} (omega arith))
-        ∙ ap (λ (p : List ℕ). p ∷ []) (append-nil (between text at i)));
-  }
+  pub last_field : None ≡ position (λ c. eqb c comma) (drop from text) → FieldEnd text from (length text)
+  last_field e =
+      record {
+        from = within;
+        within = omega arith;
+        splits =
+            rw (le-leb from (length text) within, lt-leb (length text + 1) (length text) (omega arith))
+            (one_field (drop from text) (absent comma (drop from text) e) ∙ ap (λ (l : List ℕ). l ∷ [])
+            (sym (take_all (length text - from) (drop from text) (simp length-drop (omega arith)))));
+      }

@@ -3,7 +3,6 @@ use mathlib.Core.Path.{◌≡◌, refl, sym, ◌∙◌, ap}
 use mathlib.Core.List.{List, [], ◌++◌, append-nil, append_assoc}
 use Prim.Native.Nat.{ℕ, ◌+◌, ◌≤◌, ◌<◌}
 use native.Mathlib.Omega.{arith}
-use native.Mathlib.Numerals.{add-one}
 use lib.ListN.{length, drop}
 use borrow.Author.Tests.{lt-ltb, le-ltb}
 use Rattle.tables.specs.Tables.{Tables, tables_of}
@@ -12,36 +11,12 @@ use Rattle.schema.specs.RowRule.{max_rows}
 use Rattle.instance.specs.NodeRule.{max_nodes}
 use Rattle.job.specs.Ascii.{ascii}
 use Rattle.job.specs.Lines.{lines_of}
-use Rattle.job.specs.Reading.{max_file, read_job, read_lines, read, wrong, lines, literal, count, add_row, add_node}
-use Rattle.job_lines.specs.Steps.{TakesLine, Stops, Next, Add, string_tables, read_strings, StringsTo}
-use Rattle.job_lines.specs.Steps.{AddsWords, read_rows, read_table, RowsTo, RowsStop, RowSection}
+use Rattle.job.specs.Reading.{max_file, read_job, read_lines, read, wrong, literal, count, add_row, add_node}
+use Rattle.job_lines.specs.Steps.{TakesLine, Next, string_tables, read_strings, StringsTo}
+use Rattle.job_lines.specs.Steps.{AddsWords, read_table, RowsTo, RowsStop}
 use Rattle.job_lines.specs.Steps.{read_end, read_front, max_front, read_back, with_rows, BackTo, LinesTo}
-use Rattle.job_lines.specs.declared.Section.{Section}
-use Rattle.job_lines.specs.declared.Section.TheVariants.{Read, Wrong}
 
--- ---- a table of rows
-module _ (counted : List ℕ) (limit : ℕ) {ls rest : List (List ℕ)} {rows : ℕ}
-    (pass : TakesLine (count counted limit) ls rows rest) (n : ℕ) where
-  after_count : (add : Add) (t : Tables) (next : Next)
-      → read_table counted limit n ls add t next ≡ read_rows rows (n + 1) rest add t next
-  after_count add t next =
-      pass.on n (λ rows n rest. lines add rows t n rest next)
-      ∙ ap (λ (m : ℕ). lines add rows t m rest next) (sym (add-one n))
-
-  pub table_section : (key : List ℕ) (width : ℕ) (file out out' : List ℕ) → rows ≤ limit → (r : Section)
-      → RowSection key width (read_rows rows (n + 1) rest) file out out' (n + 1 + rows) r
-      → RowSection key width (read_table counted limit n ls) file out out' (n + 1 + limit) r
-  table_section key width file out out' h (Read at m used) s = record {
-    words = s.words;
-    passes = λ {add} a t next. after_count add t next ∙ s.passes a t next;
-    holds = s.holds;
-    size = s.size;
-    small = s.small;
-    below = omega (arith, s.below);
-  }
-  table_section key width file out out' h (Wrong m) s =
-      record { stops = λ {add} a t next. after_count add t next ∙ s.stops a t next }
-
+-- ---- the rows of a table
 abbrev with_schema : Tables → List ℕ → Tables
 with_schema t row = tables_of t.strings (t.schema ++ row) t.instance
 
@@ -64,17 +39,10 @@ adds_node = record {
 
 -- ---- the front
 module _ {ls rest : List (List ℕ)} (header : TakesLine (literal (ascii "rng=1")) ls [] rest) where
-  pub front_no_count : Stops (count (ascii "strings=") max_strings) rest → (next : Next) → read_front ls next ≡ wrong 2
-  front_no_count s next = header.on 1 _ ∙ s.on 2 _
-
   module _ {strings : ℕ} {after : List (List ℕ)}
       (counted : TakesLine (count (ascii "strings=") max_strings) rest strings after) where
     front_strings : (next : Next) → read_front ls next ≡ read_strings strings 3 after next
     front_strings next = header.on 1 _ ∙ counted.on 2 _
-
-    pub front_stops : {n : ℕ} → ((next : Next) → read_strings strings 3 after next ≡ wrong n)
-        → (next : Next) → read_front ls next ≡ wrong n
-    front_stops s next = front_strings next ∙ s next
 
     pub front_done : {file bytes ends bytes' ends' : List ℕ} {at n used : ℕ}
         → StringsTo (read_strings strings 3 after) file bytes ends bytes' ends' strings (3 + strings) at n used

@@ -1,6 +1,6 @@
 -- What the functions on one line answer, over the definitions of reading; cited by private functions only.
 use Rattle.std.specs.Prelude.{ℕ, ◌+◌, ◌≤◌, ◌<◌, ◌≡◌, cond, List, [], ◌∷◌, length, get_or, drop, leb}
-use Rattle.std.proofs.Math.Option.{Option, none, some}
+use Rattle.std.specs.Prelude.{Option, None, Some}
 use Rattle.std.proofs.lemmas.List.Edits.{sets}
 use Rattle.strings.specs.Strings.{max_bytes}
 use Rattle.tables.specs.Place.{between}
@@ -8,14 +8,12 @@ use Rattle.job.specs.Ascii.{ascii}
 use Rattle.job.specs.Numbers.{hex_bytes}
 use Rattle.job.specs.Lines.{line_feed, lines_of, fields_of, after}
 use Rattle.job.specs.Reading.{and_then}
-use Rattle.job_lines.specs.declared.Found.{Found}
-use Rattle.job_lines.specs.declared.Found.TheVariants.{At, Nothing}
 
 -- the string of a line, after so many bytes of other strings
 abbrev pub string_after : ℕ → List ℕ → Option (List ℕ)
 string_after used l =
     and_then (after (ascii "s=") l)
-    (λ digits. and_then (hex_bytes digits) (λ text. cond (leb (used + length text) max_bytes) (some text) none))
+    (λ digits. and_then (hex_bytes digits) (λ text. cond (leb (used + length text) max_bytes) (Some text) None))
 
 -- the line that starts at a position ends with the LF at e
 pub record LineTo (file : List ℕ) (at e : ℕ) : Type 0 where
@@ -24,18 +22,9 @@ pub record LineTo (file : List ℕ) (at e : ℕ) : Type 0 where
   pub feed : get_or file e 0 ≡ line_feed
   pub splits : lines_of (drop at file) ≡ between file at e ∷ lines_of (drop (e + 1) file)
 
-abbrev pub LineEnd : List ℕ → ℕ → Found → Type 0
-LineEnd file at (At e) = LineTo file at e
-LineEnd file at Nothing = lines_of (drop at file) ≡ []
-
--- what follows the key starts at p
-pub record KeyTo (key line : List ℕ) (p : ℕ) : Type 0 where
-  pub within : p ≤ length line
-  pub is : after key line ≡ some (drop p line)
-
-abbrev pub KeyEnd : List ℕ → List ℕ → Found → Type 0
-KeyEnd key line (At p) = KeyTo key line p
-KeyEnd key line Nothing = after key line ≡ none
+abbrev pub LineEnd : List ℕ → ℕ → Option ℕ → Type 0
+LineEnd file at (Some e) = LineTo file at e
+LineEnd file at None = lines_of (drop at file) ≡ []
 
 -- the fields from a position on: none past the end of the text
 abbrev pub fields_from : List ℕ → ℕ → List (List ℕ)
@@ -50,10 +39,10 @@ pub record FieldEnd (text : List ℕ) (at e : ℕ) : Type 0 where
 -- what is read stands in the output from a position on, as far as it fits, and ends at another position
 pub record StoredTo (reads : Option (List ℕ)) (out : List ℕ) (from : ℕ) (after : List ℕ) (to : ℕ) : Type 0 where
   pub run : List ℕ
-  pub is : reads ≡ some run
+  pub is : reads ≡ Some run
   pub stored : after ≡ sets out from run
   pub ends : to ≡ from + length run
 
-abbrev pub Stores : Option (List ℕ) → List ℕ → ℕ → List ℕ → Found → Type 0
-Stores reads out from after (At to) = StoredTo reads out from after to
-Stores reads out from after Nothing = reads ≡ none
+abbrev pub Stores : Option (List ℕ) → List ℕ → ℕ → List ℕ → Option ℕ → Type 0
+Stores reads out from after (Some to) = StoredTo reads out from after to
+Stores reads out from after None = reads ≡ None

@@ -1,11 +1,10 @@
 -- What reading the lines of a job file promises: the tables that the definition of reading gives, laid in four outputs
 -- as far as they fit, or the first wrong line.
-use Rattle.std.specs.Prelude.{ℕ, ◌≡◌, List, length}
+use Rattle.std.specs.Prelude.{ℕ, ◌≡◌, List, length, Result, Ok, Err}
 use Rattle.tables.specs.Outputs.{laid}
 use Rattle.tables.specs.Tables.{Tables}
 use Rattle.job.specs.Reading.{no_tables, Reading, read, wrong}
-use Rattle.job_lines.specs.declared.Held.{Held}
-use Rattle.job_lines.specs.declared.Held.TheVariants as held
+use Rattle.job_lines.specs.declared.Lengths.{Lengths}
 
 -- how many words each lent output has
 pub record Room : Type 0 where
@@ -26,10 +25,15 @@ pub record OutputsHold (t : Tables) (room : Room) (bytes ends schema instance : 
   pub of_instance : instance ≡ laid room.instance t.instance
 
 -- the lengths of the four tables, or the first wrong line
-abbrev pub held_as : Reading → Held
+abbrev pub held_as : Reading → Result Lengths ℕ
 held_as (read t) =
-    held.Tables (length t.strings.bytes) (length t.strings.ends) (length t.schema) (length t.instance)
-held_as (wrong line) = held.Wrong line
+    Ok (record {
+      bytes = length t.strings.bytes;
+      ends = length t.strings.ends;
+      schema = length t.schema;
+      instance = length t.instance;
+    })
+held_as (wrong line) = Err line
 
 -- the tables that are laid: none where a line is wrong
 abbrev pub tables_in : Reading → Tables

@@ -1,7 +1,7 @@
 -- What the functions on lines answer: each goes on with the lines after it, or is wrong at a line, as the definition of
 -- reading does; cited by private functions only.
 use Rattle.std.specs.Prelude.{ℕ, suc, ◌+◌, ◌≤◌, ◌<◌, ◌≡◌, List, [], ◌++◌, length, get_or, drop}
-use Rattle.std.proofs.Math.Option.{Option, some}
+use Rattle.std.specs.Prelude.{Option, None, Some, Result, Ok, Err}
 use Rattle.std.proofs.lemmas.List.Edits.{sets}
 use Rattle.tables.specs.Tables.{Tables, tables_of, string_table}
 use Rattle.strings.specs.Strings.{max_strings, max_bytes}
@@ -11,20 +11,10 @@ use Rattle.job.specs.Ascii.{ascii}
 use Rattle.job.specs.Lines.{line_feed, lines_of}
 use Rattle.job.specs.Reading.{no_tables, Reading, read, wrong, line, lines, literal, count}
 use Rattle.job.specs.Reading.{add_string, add_row, add_node, row_of, and_then, nothing_more, read_job}
-use Rattle.job_lines.specs.declared.Found.{Found}
-use Rattle.job_lines.specs.declared.Found.TheVariants.{At, Nothing}
-use Rattle.job_lines.specs.declared.Counted.{Counted}
-use Rattle.job_lines.specs.declared.Counted.TheVariants.{Count, NoCount}
 use Rattle.job_lines.specs.declared.Section.{Section}
-use Rattle.job_lines.specs.declared.Section.TheVariants as section
-use Rattle.job_lines.specs.declared.Ending.{Ending}
-use Rattle.job_lines.specs.declared.Ending.TheVariants as ending
 use Rattle.job_lines.specs.declared.Front.{Front}
-use Rattle.job_lines.specs.declared.Front.TheVariants as front
 use Rattle.job_lines.specs.declared.Back.{Back}
-use Rattle.job_lines.specs.declared.Back.TheVariants as back
-use Rattle.job_lines.specs.declared.Held.{Held}
-use Rattle.job_lines.specs.declared.Held.TheVariants as held
+use Rattle.job_lines.specs.declared.Lengths.{Lengths}
 
 -- the most words that a table of rows has
 abbrev pub max_words : ℕ
@@ -46,18 +36,18 @@ pub record LiteralTo (text file : List ℕ) (at e : ℕ) : Type 0 where
   pub feed : get_or file e 0 ≡ line_feed
   pub passes : TakesLine (literal text) (lines_of (drop at file)) [] (lines_of (drop (e + 1) file))
 
-abbrev pub LiteralLine : List ℕ → List ℕ → ℕ → Found → Type 0
-LiteralLine text file at (At e) = LiteralTo text file at e
-LiteralLine text file at Nothing = Stops (literal text) (lines_of (drop at file))
+abbrev pub LiteralLine : List ℕ → List ℕ → ℕ → Option ℕ → Type 0
+LiteralLine text file at (Some e) = LiteralTo text file at e
+LiteralLine text file at None = Stops (literal text) (lines_of (drop at file))
 
 -- a count n keeps its limit, and the next line starts at p
 pub record CountTo (key : List ℕ) (limit : ℕ) (file : List ℕ) (at n p : ℕ) : Type 0 where
   pub keeps : n ≤ limit
   pub passes : TakesLine (count key limit) (lines_of (drop at file)) n (lines_of (drop p file))
 
-abbrev pub CountLine : List ℕ → ℕ → List ℕ → ℕ → Counted → Type 0
-CountLine key limit file at (Count n p) = CountTo key limit file at n p
-CountLine key limit file at NoCount = Stops (count key limit) (lines_of (drop at file))
+abbrev pub CountLine : List ℕ → ℕ → List ℕ → ℕ → Option (ℕ × ℕ) → Type 0
+CountLine key limit file at (Some c) = CountTo key limit file at c.0 c.1
+CountLine key limit file at None = Stops (count key limit) (lines_of (drop at file))
 
 -- ---- the lines of a table
 -- what is done with the tables, the number of the next line and the lines left
@@ -88,14 +78,15 @@ pub record StringsTo (reads : Next → Reading) (file bytes ends bytes' ends' : 
   pub few : strings ≤ max_strings
   pub below : n ≤ top
 
-abbrev pub StringSection : (Next → Reading) → List ℕ → List ℕ → List ℕ → List ℕ → List ℕ → ℕ → ℕ → Section → Type 0
-StringSection reads file bytes ends bytes' ends' strings top (section.Read at n used) =
-    StringsTo reads file bytes ends bytes' ends' strings top at n used
-StringSection reads file bytes ends bytes' ends' strings top (section.Wrong n) = (next : Next) → reads next ≡ wrong n
+abbrev pub StringSection : (Next → Reading) → List ℕ → List ℕ → List ℕ → List ℕ → List ℕ → ℕ → ℕ
+    → Result Section ℕ → Type 0
+StringSection reads file bytes ends bytes' ends' strings top (Ok s) =
+    StringsTo reads file bytes ends bytes' ends' strings top s.next s.line s.words
+StringSection reads file bytes ends bytes' ends' strings top (Err n) = (next : Next) → reads next ≡ wrong n
 
 -- a line of a table adds its words to it, and grow is what words add to the tables
 pub record AddsWords (key : List ℕ) (width : ℕ) (add : Add) (grow : Tables → List ℕ → Tables) : Type 0 where
-  pub each : (t : Tables) (l : List ℕ) → add t l ≡ and_then (row_of key width l) (λ row. some (grow t row))
+  pub each : (t : Tables) (l : List ℕ) → add t l ≡ and_then (row_of key width l) (λ row. Some (grow t row))
   pub grow_none : (t : Tables) → grow t [] ≡ t
   pub grow_more : (t : Tables) (a b : List ℕ) → grow (grow t a) b ≡ grow t (a ++ b)
 
@@ -122,18 +113,19 @@ pub record RowsStop (key : List ℕ) (width : ℕ) (reads : Add → Tables → N
   pub stops : {add : Add} {grow : Tables → List ℕ → Tables} → AddsWords key width add grow → (t : Tables) (next : Next)
       → reads add t next ≡ wrong n
 
-abbrev pub RowSection : List ℕ → ℕ → (Add → Tables → Next → Reading) → List ℕ → List ℕ → List ℕ → ℕ → Section → Type 0
-RowSection key width reads file out out' top (section.Read at n used) =
-    RowsTo key width reads file out out' top at n used
-RowSection key width reads file out out' top (section.Wrong n) = RowsStop key width reads n
+abbrev pub RowSection : List ℕ → ℕ → (Add → Tables → Next → Reading) → List ℕ → List ℕ → List ℕ → ℕ
+    → Result Section ℕ → Type 0
+RowSection key width reads file out out' top (Ok s) =
+    RowsTo key width reads file out out' top s.next s.line s.words
+RowSection key width reads file out out' top (Err n) = RowsStop key width reads n
 
 -- ---- the last line
 abbrev pub read_end : List ℕ → ℕ → List (List ℕ) → Tables → Reading
 read_end file n ls t = line (literal (ascii "end=1")) n ls (λ _ n rest. nothing_more file t n rest)
 
-abbrev pub EndLine : List ℕ → ℕ → ℕ → Ending → Type 0
-EndLine file n at ending.Ended = (t : Tables) → read_end file n (lines_of (drop at file)) t ≡ read t
-EndLine file n at (ending.Wrong m) = (t : Tables) → read_end file n (lines_of (drop at file)) t ≡ wrong m
+abbrev pub EndLine : List ℕ → ℕ → ℕ → Result Unit ℕ → Type 0
+EndLine file n at (Ok x) = (t : Tables) → read_end file n (lines_of (drop at file)) t ≡ read t
+EndLine file n at (Err m) = (t : Tables) → read_end file n (lines_of (drop at file)) t ≡ wrong m
 
 -- ---- the parts of a file
 -- the first line and the strings
@@ -147,10 +139,10 @@ read_front ls next =
 abbrev pub max_front : ℕ
 max_front = 515
 
-abbrev pub FrontRead : List ℕ → List ℕ → List ℕ → List ℕ → List ℕ → Front → Type 0
-FrontRead file bytes ends bytes' ends' (front.Read at n used strings) =
-    StringsTo (read_front (lines_of file)) file bytes ends bytes' ends' strings max_front at n used
-FrontRead file bytes ends bytes' ends' (front.Wrong n) = (next : Next) → read_front (lines_of file) next ≡ wrong n
+abbrev pub FrontRead : List ℕ → List ℕ → List ℕ → List ℕ → List ℕ → Result Front ℕ → Type 0
+FrontRead file bytes ends bytes' ends' (Ok f) =
+    StringsTo (read_front (lines_of file)) file bytes ends bytes' ends' f.strings max_front f.next f.line f.bytes
+FrontRead file bytes ends bytes' ends' (Err n) = (next : Next) → read_front (lines_of file) next ≡ wrong n
 
 -- the two tables of rows and the last line
 abbrev pub read_back : List ℕ → ℕ → List (List ℕ) → Tables → Reading
@@ -174,15 +166,10 @@ pub record BackTo (file : List ℕ) (n : ℕ) (ls : List (List ℕ)) (schema ins
   pub schema_size : r ≡ length row_words
   pub instance_size : i ≡ length node_words
 
-abbrev pub BackRead : List ℕ → ℕ → List (List ℕ) → List ℕ → List ℕ → List ℕ → List ℕ → Back → Type 0
-BackRead file n ls schema instance schema' instance' (back.Read r i) =
-    BackTo file n ls schema instance schema' instance' r i
-BackRead file n ls schema instance schema' instance' (back.Wrong m) = (t : Tables) → read_back file n ls t ≡ wrong m
-
--- the line that a table stops at: the one after it, or its first wrong one
-abbrev pub line_of : Section → ℕ
-line_of (section.Read at n used) = n
-line_of (section.Wrong n) = n
+abbrev pub BackRead : List ℕ → ℕ → List (List ℕ) → List ℕ → List ℕ → List ℕ → List ℕ → Result Back ℕ → Type 0
+BackRead file n ls schema instance schema' instance' (Ok b) =
+    BackTo file n ls schema instance schema' instance' b.schema b.instance
+BackRead file n ls schema instance schema' instance' (Err m) = (t : Tables) → read_back file n ls t ≡ wrong m
 
 -- ---- all lines
 -- the lines are read, each table stands at the front of its output as far as it fits, and b, s, r and i are the lengths
@@ -200,7 +187,8 @@ pub record LinesTo (file bytes ends schema instance bytes' ends' schema' instanc
   pub schema_size : r ≡ length tables.schema
   pub instance_size : i ≡ length tables.instance
 
-abbrev pub LinesHeld : List ℕ → List ℕ → List ℕ → List ℕ → List ℕ → List ℕ → List ℕ → List ℕ → List ℕ → Held → Type 0
-LinesHeld file bytes ends schema instance bytes' ends' schema' instance' (held.Tables b s r i) =
-    LinesTo file bytes ends schema instance bytes' ends' schema' instance' b s r i
-LinesHeld file bytes ends schema instance bytes' ends' schema' instance' (held.Wrong n) = read_job file ≡ wrong n
+abbrev pub LinesHeld : List ℕ → List ℕ → List ℕ → List ℕ → List ℕ → List ℕ → List ℕ → List ℕ → List ℕ
+    → Result Lengths ℕ → Type 0
+LinesHeld file bytes ends schema instance bytes' ends' schema' instance' (Ok l) =
+    LinesTo file bytes ends schema instance bytes' ends' schema' instance' l.bytes l.ends l.schema l.instance
+LinesHeld file bytes ends schema instance bytes' ends' schema' instance' (Err n) = read_job file ≡ wrong n

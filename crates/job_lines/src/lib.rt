@@ -1,101 +1,66 @@
 // The lines of a job file, into lent tables.
 #![tactic(auto)]
 
-ghost use Rattle.std.specs.Prelude.{◌≡◌, ◌+◌, ◌≤◌, ◌<◌, length, drop};
+ghost use Rattle.std.specs.Prelude.{◌≡◌, ◌+◌, ◌≤◌, ◌<◌, ◌==◌, length, drop};
+ghost use Rattle.std.specs.List.{position};
 ghost use Rattle.strings.specs.Strings.{max_strings, max_bytes};
 ghost use Rattle.instance.specs.NodeRule.{max_nodes};
 ghost use Rattle.job.specs.Numbers.{hex_bytes};
 ghost use Rattle.job.specs.Lines.{lines_of, fields_of};
 ghost use Rattle.job.specs.Reading.{max_file, count, words_of, row_of, read_job, no_tables};
-ghost use Rattle.job_numbers.specs.Answers.{as_number};
-ghost use Rattle.job_lines.specs.Parts.{string_after, LineEnd, KeyEnd, FieldEnd, Stores};
+ghost use Rattle.job_lines.specs.Parts.{string_after, LineEnd, FieldEnd, Stores};
 ghost use Rattle.job_lines.specs.Steps.{LiteralLine, CountLine, StringSection, read_strings};
-ghost use Rattle.job_lines.specs.Steps.{RowSection, read_rows, read_table, EndLine, line_of};
+ghost use Rattle.job_lines.specs.Steps.{RowSection, read_rows, read_table, EndLine};
 ghost use Rattle.job_lines.specs.Steps.{FrontRead, BackRead, max_front, max_words, LinesHeld};
 ghost use Rattle.job_lines.specs.Promises.{held_as, tables_in, room_of, OutputsHold};
 
-use job_numbers::Number;
-
-// A position, if there is one.
+// The lines of a table: the position after them, the number of the next line and the number of words.
 #[derive(Clone, Copy)]
-enum Found {
-    At(usize),
-    Nothing,
-}
-
-// A count and the position after its line, if there is one.
-#[derive(Clone, Copy)]
-enum Counted {
-    Count(u32, usize),
-    NoCount,
-}
-
-// The lines of a table: the position after them, the number of the next line and the number of words, or the first
-// wrong line.
-#[derive(Clone, Copy)]
-enum Section {
-    Read(usize, u32, usize),
-    Wrong(u32),
-}
-
-// The end of a file, or the first wrong line.
-#[derive(Clone, Copy)]
-enum Ending {
-    Ended,
-    Wrong(u32),
+struct Section {
+    next: usize,
+    line: u32,
+    words: usize,
 }
 
 // The first line and the strings: the position after them, the number of the next line, and the numbers of bytes and of
-// strings; or the first wrong line.
+// strings.
 #[derive(Clone, Copy)]
-enum Front {
-    Read(usize, u32, usize, usize),
-    Wrong(u32),
+struct Front {
+    next: usize,
+    line: u32,
+    bytes: usize,
+    strings: usize,
 }
 
-// The tables of rows and the last line: the numbers of words of the two tables, or the first wrong line.
+// The numbers of words of the two tables of rows.
 #[derive(Clone, Copy)]
-enum Back {
-    Read(usize, usize),
-    Wrong(u32),
+struct Back {
+    schema: usize,
+    instance: usize,
 }
 
-// The numbers of words of the four tables, or the first wrong line.
-#[derive(Clone, Copy)]
-pub enum Held {
-    Tables(usize, usize, usize, usize),
-    Wrong(u32),
+// The numbers of words of the four tables.
+#[derive(Clone, Copy, Debug, PartialEq, Eq)]
+pub struct Lengths {
+    pub bytes: usize,
+    pub ends: usize,
+    pub schema: usize,
+    pub instance: usize,
+}
+
+// Where a byte first occurs.
+fn find(bytes: &[u8], b: u8) -> Option<usize>
+    ensures { result ≡ position (λ c. c == b) bytes.now }
+{
+    bytes.iter().position(|c| *c == b)
 }
 
 // Where the line ends that starts at a position.
-fn line_end(file: &[u8], at: usize) -> Found
+fn line_end(file: &[u8], at: usize) -> Option<usize>
     ensures { LineEnd file.now at result }
 {
-    let mut i = at;
-    while i < file.len() {
-        if file[i] == b'\n' {
-            return Found::At(i);
-        }
-        i += 1;
-    }
-    Found::Nothing
-}
-
-// Where what follows a key at the front of a line starts.
-fn key_end(line: &[u8], key: &[u8]) -> Found
-    ensures { KeyEnd key.now line.now result }
-{
-    let mut i = 0;
-    while i < key.len() {
-        if line.len() <= i {
-            return Found::Nothing;
-        }
-        if line[i] != key[i] {
-            return Found::Nothing;
-        }
-        i += 1;
-    }
-    Found::At(i)
+    let i = find(file.get(at..)?, b'\n')?;
+    Some(at + i)
 }
 
 // Where the field ends that starts at a position.
@@ -103,135 +68,96 @@ fn field_end(text: &[u8], from: usize) -> usize
     requires { from ≤ length text.now }
     ensures { FieldEnd text.now from result }
 {
-    let mut i = from;
-    while i < text.len() {
-        if text[i] == b',' {
-            return i;
-        }
-        i += 1;
+    match find(&text[from..], b',') {
+        Some(i) => from + i,
+        None => text.len(),
     }
-    i
 }
 
 // The bytes that pairs of hexadecimal digits are, stored in an output from a position on; the position after them.
-fn hex_bytes(text: &[u8], out: &mut [u8], from: usize) -> Found
+fn hex_bytes(text: &[u8], out: &mut [u8], from: usize) -> Option<usize>
     requires { from ≤ max_bytes }
     ensures { Stores (hex_bytes text.now) out.old from out.new result }
 {
-    let mut to = from;
-    let mut i = 0;
-    while i < text.len() {
-        if text.len() - i < 2 {
-            return Found::Nothing;
-        }
-        let Number::Value(high) = job_numbers::hex_digit(text[i]) else {
-            return Found::Nothing;
-        };
-        let Number::Value(low) = job_numbers::hex_digit(text[i + 1]) else {
-            return Found::Nothing;
-        };
-        tables::put_u8(out, to, (high * 16 + low) as u8);
-        to += 1;
-        i += 2;
+    if text.len() % 2 != 0 {
+        return None;
     }
-    Found::At(to)
+    let size = text.len() / 2;
+    for i in 0..size {
+        let high = job_numbers::hex_digit(text[2 * i])?;
+        let low = job_numbers::hex_digit(text[2 * i + 1])?;
+        tables::put(out, from + i, high * 16 + low);
+    }
+    Some(from + size)
 }
 
 // The words of exactly so many fields, stored in an output from a position on; the position after them.
-fn words(text: &[u8], width: usize, out: &mut [u32], from: usize) -> Found
+fn words(text: &[u8], width: usize, out: &mut [u32], from: usize) -> Option<usize>
     requires { (length text.now ≤ max_file) × (width ≤ 5) × (from ≤ max_words) }
     ensures { Stores (words_of width (fields_of text.now)) out.old from out.new result }
 {
-    let mut to = from;
-    let mut left = width;
     let mut start = 0;
-    while 0 < left {
+    for i in 0..width {
         if text.len() < start {
-            return Found::Nothing;
+            return None;
         }
         let end = field_end(text, start);
-        let Number::Value(w) = job_numbers::read_word(&text[start..end]) else {
-            return Found::Nothing;
-        };
-        tables::put_u32(out, to, w);
-        to += 1;
-        left -= 1;
+        let w = job_numbers::read_word(&text[start..end])?;
+        tables::put(out, from + i, w);
         start = end + 1;
     }
     if start <= text.len() {
-        return Found::Nothing;
+        return None;
     }
-    Found::At(to)
+    Some(from + width)
 }
 
 // The bytes of a string line, stored after those of the strings before it.
-fn string_line(line: &[u8], bytes: &mut [u8], from: usize) -> Found
+fn string_line(line: &[u8], bytes: &mut [u8], from: usize) -> Option<usize>
     requires { from ≤ max_bytes }
     ensures { Stores (string_after from line.now) bytes.old from bytes.new result }
 {
-    let Found::At(p) = key_end(line, b"s=") else {
-        return Found::Nothing;
-    };
-    let Found::At(to) = hex_bytes(&line[p..], bytes, from) else {
-        return Found::Nothing;
-    };
+    let to = hex_bytes(line.strip_prefix(b"s=")?, bytes, from)?;
     if strings::MAX_BYTES < to {
-        return Found::Nothing;
+        return None;
     }
-    Found::At(to)
+    Some(to)
 }
 
 // The words of a row line, stored after those of the rows before it.
-fn row_line(line: &[u8], key: &[u8], width: usize, out: &mut [u32], from: usize) -> Found
+fn row_line(line: &[u8], key: &[u8], width: usize, out: &mut [u32], from: usize) -> Option<usize>
     requires { (length line.now ≤ max_file) × (width ≤ 5) × (from ≤ max_words) }
     ensures { Stores (row_of key.now width line.now) out.old from out.new result }
 {
-    let Found::At(p) = key_end(line, key) else {
-        return Found::Nothing;
-    };
-    words(&line[p..], width, out, from)
+    words(line.strip_prefix(key)?, width, out, from)
 }
 
 // The count of a line, up to a limit.
-fn count_of(line: &[u8], key: &[u8], limit: usize) -> Number
-    ensures { result ≡ as_number (count key.now limit line.now) }
+fn count_of(line: &[u8], key: &[u8], limit: usize) -> Option<u32>
+    ensures { result ≡ count key.now limit line.now }
 {
-    let Found::At(p) = key_end(line, key) else {
-        return Number::NoNumber;
-    };
-    let Number::Value(n) = job_numbers::read_number(&line[p..]) else {
-        return Number::NoNumber;
-    };
+    let n = job_numbers::read_number(line.strip_prefix(key)?)?;
     if limit < n as usize {
-        return Number::NoNumber;
+        return None;
     }
-    Number::Value(n)
+    Some(n)
 }
 
 // Where the line ends that is nothing but a text.
-fn literal_line(file: &[u8], at: usize, text: &[u8]) -> Found
+fn literal_line(file: &[u8], at: usize, text: &[u8]) -> Option<usize>
     ensures { LiteralLine text.now file.now at result }
 {
-    let Found::At(e) = line_end(file, at) else {
-        return Found::Nothing;
-    };
-    if tables::same_bytes(&file[at..e], text) {
-        return Found::At(e);
-    }
-    Found::Nothing
+    let e = line_end(file, at)?;
+    if &file[at..e] == text { Some(e) } else { None }
 }
 
 // A count line: the count, and where the next line starts.
-fn count_line(file: &[u8], at: usize, key: &[u8], limit: usize) -> Counted
+fn count_line(file: &[u8], at: usize, key: &[u8], limit: usize) -> Option<(u32, usize)>
     ensures { CountLine key.now limit file.now at result }
 {
-    let Found::At(e) = line_end(file, at) else {
-        return Counted::NoCount;
-    };
-    let Number::Value(n) = count_of(&file[at..e], key, limit) else {
-        return Counted::NoCount;
-    };
-    Counted::Count(n, e + 1)
+    let e = line_end(file, at)?;
+    let n = count_of(&file[at..e], key, limit)?;
+    Some((n, e + 1))
 }
 
 // So many string lines, into an output for the bytes and one for the ends.
@@ -242,27 +168,25 @@ fn read_strings(
     count: u32,
     bytes: &mut [u8],
     ends: &mut [u32],
-) -> Section
+) -> Result<Section, u32>
     requires { (line ≤ max_file) × (count ≤ max_strings) }
     ensures { StringSection (read_strings count line (lines_of (drop at file.now))) file.now bytes.old ends.old
         bytes.new ends.new count (line + count) result }
 {
     let mut start = at;
     let mut used = 0;
-    let mut k = 0;
-    while k < count {
-        let Found::At(e) = line_end(file, start) else {
-            return Section::Wrong(line + k);
-        };
-        let Found::At(to) = string_line(&file[start..e], bytes, used) else {
-            return Section::Wrong(line + k);
-        };
-        tables::put_u32(ends, k as usize, to as u32);
+    for k in 0..count {
+        let e = line_end(file, start).ok_or(line + k)?;
+        let to = string_line(&file[start..e], bytes, used).ok_or(line + k)?;
+        tables::put(ends, k as usize, to as u32);
         start = e + 1;
         used = to;
-        k += 1;
     }
-    Section::Read(start, line + k, used)
+    Ok(Section {
+        next: start,
+        line: line + count,
+        words: used,
+    })
 }
 
 // So many row lines, into an output for their words.
@@ -274,26 +198,24 @@ fn read_rows(
     key: &[u8],
     width: usize,
     out: &mut [u32],
-) -> Section
+) -> Result<Section, u32>
     requires { (length file.now ≤ max_file) × (line ≤ max_file) × (count ≤ max_nodes) × (width ≤ 5) }
     ensures { RowSection key.now width (read_rows count line (lines_of (drop at file.now))) file.now out.old
         out.new (line + count) result }
 {
     let mut start = at;
     let mut used = 0;
-    let mut k = 0;
-    while k < count {
-        let Found::At(e) = line_end(file, start) else {
-            return Section::Wrong(line + k);
-        };
-        let Found::At(to) = row_line(&file[start..e], key, width, out, used) else {
-            return Section::Wrong(line + k);
-        };
+    for k in 0..count {
+        let e = line_end(file, start).ok_or(line + k)?;
+        let to = row_line(&file[start..e], key, width, out, used).ok_or(line + k)?;
         start = e + 1;
         used = to;
-        k += 1;
     }
-    Section::Read(start, line + k, used)
+    Ok(Section {
+        next: start,
+        line: line + count,
+        words: used,
+    })
 }
 
 // A table: its count line and its rows.
@@ -306,60 +228,50 @@ fn read_table(
     key: &[u8],
     width: usize,
     out: &mut [u32],
-) -> Section
+) -> Result<Section, u32>
     requires { (length file.now ≤ max_file) × (line < max_file) × (limit ≤ max_nodes) × (width ≤ 5) }
     ensures { RowSection key.now width (read_table counted.now limit line (lines_of (drop at file.now))) file.now
         out.old out.new (line + 1 + limit) result }
 {
-    let Counted::Count(rows, next) = count_line(file, at, counted, limit) else {
-        return Section::Wrong(line);
-    };
+    let (rows, next) = count_line(file, at, counted, limit).ok_or(line)?;
     read_rows(file, next, line + 1, rows, key, width, out)
 }
 
-// The last line, and that nothing comes after it.
-fn end_line(file: &[u8], at: usize, line: u32) -> Ending
+// The last line, and that nothing comes after it; otherwise the first wrong line.
+fn end_line(file: &[u8], at: usize, line: u32) -> Result<(), u32>
     requires { line ≤ max_file }
     ensures { EndLine file.now line at result }
 {
-    let Found::At(e) = literal_line(file, at, b"end=1") else {
-        return Ending::Wrong(line);
-    };
+    let e = literal_line(file, at, b"end=1").ok_or(line)?;
     if e + 1 < file.len() {
-        return Ending::Wrong(line + 1);
+        return Err(line + 1);
     }
-    Ending::Ended
-}
-
-// The line that a section stops at: the next one, or the wrong one.
-fn line_of(section: Section) -> u32
-    ensures { result ≡ line_of section }
-{
-    match section {
-        Section::Read(_, next, _) => next,
-        Section::Wrong(line) => line,
-    }
+    Ok(())
 }
 
 // The first line and the strings, into an output for the bytes and one for the ends.
-fn read_front(file: &[u8], bytes: &mut [u8], ends: &mut [u32]) -> Front
+fn read_front(file: &[u8], bytes: &mut [u8], ends: &mut [u32]) -> Result<Front, u32>
     ensures { FrontRead file.now bytes.old ends.old bytes.new ends.new result }
 {
-    let Found::At(e) = literal_line(file, 0, b"rng=1") else {
-        return Front::Wrong(1);
-    };
-    let Counted::Count(count, at) = count_line(file, e + 1, b"strings=", strings::MAX_STRINGS)
-    else {
-        return Front::Wrong(2);
-    };
-    match read_strings(file, at, 3, count, bytes, ends) {
-        Section::Wrong(line) => Front::Wrong(line),
-        Section::Read(next, line, size) => Front::Read(next, line, size, count as usize),
-    }
+    let e = literal_line(file, 0, b"rng=1").ok_or(1u32)?;
+    let (count, at) = count_line(file, e + 1, b"strings=", strings::MAX_STRINGS).ok_or(2u32)?;
+    let read = read_strings(file, at, 3, count, bytes, ends)?;
+    Ok(Front {
+        next: read.next,
+        line: read.line,
+        bytes: read.words,
+        strings: count as usize,
+    })
 }
 
 // The two tables of rows and the last line, from a position and a line on.
-fn read_back(file: &[u8], at: usize, line: u32, schema: &mut [u32], instance: &mut [u32]) -> Back
+fn read_back(
+    file: &[u8],
+    at: usize,
+    line: u32,
+    schema: &mut [u32],
+    instance: &mut [u32],
+) -> Result<Back, u32>
     requires { (length file.now ≤ max_file) × (line ≤ max_front) }
     ensures { BackRead file.now line (lines_of (drop at file.now)) schema.old instance.old schema.new
         instance.new result }
@@ -373,27 +285,22 @@ fn read_back(file: &[u8], at: usize, line: u32, schema: &mut [u32], instance: &m
         b"row=",
         3,
         schema,
-    );
-    let Section::Read(at_instance, line_instance, row_words) = rows else {
-        return Back::Wrong(line_of(rows));
-    };
+    )?;
     let nodes = read_table(
         file,
-        at_instance,
-        line_instance,
+        rows.next,
+        rows.line,
         b"instance=",
         instance::MAX_NODES,
         b"node=",
         5,
         instance,
-    );
-    let Section::Read(at_end, last_line, node_words) = nodes else {
-        return Back::Wrong(line_of(nodes));
-    };
-    match end_line(file, at_end, last_line) {
-        Ending::Wrong(last) => Back::Wrong(last),
-        Ending::Ended => Back::Read(row_words, node_words),
-    }
+    )?;
+    end_line(file, nodes.next, nodes.line)?;
+    Ok(Back {
+        schema: rows.words,
+        instance: nodes.words,
+    })
 }
 
 // The lines of a file, each table stored from the front of its output as far as it fits; where a line is wrong, what
@@ -404,20 +311,21 @@ fn read_lines(
     ends: &mut [u32],
     schema: &mut [u32],
     instance: &mut [u32],
-) -> Held
+) -> Result<Lengths, u32>
     ensures { LinesHeld file.now bytes.old ends.old schema.old instance.old bytes.new
         ends.new schema.new instance.new result }
 {
     if job::MAX_FILE < file.len() {
-        return Held::Wrong(0);
+        return Err(0);
     }
-    match read_front(file, bytes, ends) {
-        Front::Wrong(line) => Held::Wrong(line),
-        Front::Read(at, next, b, s) => match read_back(file, at, next, schema, instance) {
-            Back::Wrong(line) => Held::Wrong(line),
-            Back::Read(r, i) => Held::Tables(b, s, r, i),
-        },
-    }
+    let front = read_front(file, bytes, ends)?;
+    let back = read_back(file, front.next, front.line, schema, instance)?;
+    Ok(Lengths {
+        bytes: front.bytes,
+        ends: front.strings,
+        schema: back.schema,
+        instance: back.instance,
+    })
 }
 
 // All four outputs are zeros throughout.
@@ -425,10 +333,10 @@ pub fn zero_outputs(bytes: &mut [u8], ends: &mut [u32], schema: &mut [u32], inst
     ensures { OutputsHold no_tables (room_of bytes.old ends.old schema.old instance.old) bytes.new
         ends.new schema.new instance.new }
 {
-    tables::zero_u8(bytes);
-    tables::zero_u32(ends);
-    tables::zero_u32(schema);
-    tables::zero_u32(instance);
+    tables::zero(bytes);
+    tables::zero(ends);
+    tables::zero(schema);
+    tables::zero(instance);
 }
 
 // The first wrong line, and zeros in the outputs, exactly when a file reads as no job, where a file that is too long is
@@ -439,7 +347,7 @@ pub fn read_tables(
     ends: &mut [u32],
     schema: &mut [u32],
     instance: &mut [u32],
-) -> Held
+) -> Result<Lengths, u32>
     ensures answer { result ≡ held_as (read_job file.now) }
     ensures outputs { OutputsHold (tables_in (read_job file.now))
         (room_of bytes.old ends.old schema.old instance.old) bytes.new ends.new
@@ -447,9 +355,8 @@ pub fn read_tables(
 {
     zero_outputs(bytes, ends, schema, instance);
     let held = read_lines(file, bytes, ends, schema, instance);
-    let Held::Wrong(line) = held else {
-        return held;
-    };
-    zero_outputs(bytes, ends, schema, instance);
-    Held::Wrong(line)
+    if held.is_err() {
+        zero_outputs(bytes, ends, schema, instance);
+    }
+    held
 }

@@ -1,49 +1,36 @@
 -- A count is a number after its key that keeps the limit.
-use mathlib.Core.Path.{sym, ◌∙◌, ap}
+use mathlib.Core.Path.{sym}
 use native.Mathlib.Omega.{arith}
-use lib.ListN.{length}
-use Rattle.job.specs.Numbers.{number_of}
-use Rattle.tables.specs.Place.{between}
-use Rattle.job_lines.proofs.Passing as passing
-use Rattle.job_lines.proofs.Keys.{key_rest}
-use Rattle.job_numbers.proofs.Digits.{value_is, no_value}
-use Rattle.job_numbers.specs.Answers.{as_number}
+use Rattle.std.specs.Prelude.{None, Some}
+use Rattle.job_lines.proofs.Passing.{count_no_key, count_no_number, count_over, count_is}
+use Rattle.job_lines.proofs.Keys.{stripped}
 use Rattle.job_lines.proofs.count_of.Goals as goal
 
-pub returns-in_default : goal.returns-in_default
-returns-in_default c =
+pub returns-in_err-strip_prefix : goal.returns-in_err-strip_prefix
+returns-in_err-strip_prefix c =
     let args = c.args in
-    sym (ap as_number (passing.count_no_key args.key.now args.limit args.line.now
-    (rw c.in_default.is at c.key_end.ensures)))
+    rw c.from_residual.ensures (sym (count_no_key args.key.now args.limit args.line.now
+    (stripped args.key.now args.line.now None c.in_err-strip_prefix.ensures.cases)))
 
-pub slice_bounds-read_number-count : goal.slice_bounds-read_number-count
-slice_bounds-read_number-count c = (rw c.in-At.is at c.key_end.ensures).within
-
-pub returns-in_default-read_number : goal.returns-in_default-read_number
-returns-in_default-read_number c =
+pub returns-in_err-n : goal.returns-in_err-n
+returns-in_err-n c =
     let args = c.args in
-    let key-end = c.key_end in
-    let k = rw c.in-At.is at key-end.ensures in
-    sym (ap as_number (passing.count_no_number args.key.now args.limit args.line.now (key_rest k)
-    (no_value (number_of (between args.line.now c.in-At.p (length args.line.now)))
-    (sym c.read_number.ensures ∙ c.in_default-read_number.is))))
+    let rest = c.in_ok-strip_prefix in
+    rw c.from_residual-in_err-n.ensures (sym (count_no_number args.key.now args.limit args.line.now
+    (stripped args.key.now args.line.now (Some rest.field-0) rest.ensures.cases) (sym c.in_err-n.ensures)))
 
 pub returns-then-limit-n : goal.returns-then-limit-n
 returns-then-limit-n c =
     let args = c.args in
-    let key-end = c.key_end in
-    let read_number = c.read_number in
-    let k = rw c.in-At.is at key-end.ensures in
-    sym (ap as_number (passing.count_over args.key.now args.limit args.line.now (key_rest k)
-    (value_is (number_of (between args.line.now c.in-At.p (length args.line.now)))
-    (sym read_number.ensures ∙ c.in-Value.is)) (omega arith)))
+    let rest = c.in_ok-strip_prefix in
+    sym (count_over args.key.now args.limit args.line.now
+    (stripped args.key.now args.line.now (Some rest.field-0) rest.ensures.cases)
+    (sym c.in_ok-n.ensures) (omega arith))
 
 pub returns : goal.returns
 returns c =
     let args = c.args in
-    let key-end = c.key_end in
-    let read_number = c.read_number in
-    let k = rw c.in-At.is at key-end.ensures in
-    sym (ap as_number (passing.count_is args.key.now args.limit args.line.now (key_rest k)
-    (value_is (number_of (between args.line.now c.in-At.p (length args.line.now)))
-    (sym read_number.ensures ∙ c.in-Value.is)) (omega arith)))
+    let rest = c.in_ok-strip_prefix in
+    sym (count_is args.key.now args.limit args.line.now
+    (stripped args.key.now args.line.now (Some rest.field-0) rest.ensures.cases)
+    (sym c.in_ok-n.ensures) (omega arith))

@@ -1,19 +1,16 @@
--- The invariant: no comma is passed.
-use native.Mathlib.Omega.{arith}
-use Rattle.job_lines.proofs.Split.{scan_none, scan_more, field_to, last_field, fields_split}
+-- A field ends where a comma is found, or with the text.
+use mathlib.Core.Path.{◌∙◌, ap}
+use Rattle.std.specs.List.{position}
+use Rattle.std.proofs.lemmas.List.{take_rest}
+use Rattle.job_lines.proofs.Split.{field_to, last_field}
 use Rattle.job_lines.proofs.field_end.Goals as goal
 
-pub loop-i-init : goal.loop-i-init
-loop-i-init c = (omega arith, scan_none _ _ _)
+pub returns-in-Some : goal.returns-in-Some
+returns-in-Some c =
+    field_to c.args.text.now c.args.from c.requires
+    (c.in-Some.ensures ∙ ap (position _) (take_rest c.args.text.now c.args.from))
 
-pub returns-then-text-i-eq44 : goal.returns-then-text-i-eq44
-returns-then-text-i-eq44 c = field_to c.loop-i.invariant.1 c.loop-i-test.true c.if-text-i-eq44.true
-
-pub loop-i-preserved : goal.loop-i-preserved
-loop-i-preserved c = (
-  omega arith,
-  scan_more fields_split c.loop-i.invariant.1 c.loop-i-test.true c.if-text-i-eq44.false,
-)
-
-pub returns : goal.returns
-returns c = last_field c.loop-i.invariant.1 (omega arith)
+pub returns-in-None : goal.returns-in-None
+returns-in-None c =
+    last_field c.args.text.now c.args.from c.requires
+    (c.in-None.ensures ∙ ap (position _) (take_rest c.args.text.now c.args.from))

@@ -1,39 +1,17 @@
--- The front and the back of a file make its lines; a file that is too long has none.
-use Rattle.job_lines.proofs.Whole.{too_long, no_front, no_back, lines_done}
+-- The front and the back of a file make its lines.
+use Rattle.std.proofs.lemmas.Result.{err_from_is_err_and}
+use Rattle.job_lines.proofs.Whole.{no_front, no_back, lines_done}
 use Rattle.job_lines.proofs.read_lines.Goals as goal
 
-pub returns-then-file-gt-MAX_FILE : goal.returns-then-file-gt-MAX_FILE
-returns-then-file-gt-MAX_FILE c =
-    let args = c.args in
-    too_long args.file.now c.if-file-gt-MAX_FILE.true
+pub returns-in_err-front : goal.returns-in_err-front
+returns-in_err-front c =
+    let p = err_from_is_err_and c.from_residual.result c.from_residual.ensures.1 in
+    rw (p.1, p.2) (no_front c.args.file.now c.if-file-gt-MAX_FILE.false c.in_err-front.ensures)
 
-pub read_back-requires : goal.read_back-requires
-read_back-requires c =
-    let read-front = c.read_front in
-    let f = rw c.in-Read.is at read-front.ensures in
-    (c.if-file-gt-MAX_FILE.false, f.below)
+pub returns-in_err-back : goal.returns-in_err-back
+returns-in_err-back c =
+    let p = err_from_is_err_and c.from_residual-in_err-back.result c.from_residual-in_err-back.ensures.1 in
+    rw (p.1, p.2) (no_back c.args.file.now c.if-file-gt-MAX_FILE.false c.in_ok-front.ensures c.in_err-back.ensures)
 
-pub returns-in-Wrong : goal.returns-in-Wrong
-returns-in-Wrong c =
-    let args = c.args in
-    let if1 = c.if-file-gt-MAX_FILE in
-    let read-front = c.read_front in
-    no_front args.file.now if1.false (rw c.in-Wrong.is at read-front.ensures)
-
-pub returns-in-Wrong-read_back : goal.returns-in-Wrong-read_back
-returns-in-Wrong-read_back c =
-    let args = c.args in
-    let if1 = c.if-file-gt-MAX_FILE in
-    let read-front = c.read_front in
-    let read_back = c.read_back in
-    no_back args.file.now if1.false (rw c.in-Read.is at read-front.ensures)
-    (rw c.in-Wrong-read_back.is at read_back.ensures)
-
-pub returns-in-Read-read_back : goal.returns-in-Read-read_back
-returns-in-Read-read_back c =
-    let args = c.args in
-    let if1 = c.if-file-gt-MAX_FILE in
-    let read-front = c.read_front in
-    let read_back = c.read_back in
-    lines_done args.file.now if1.false (rw c.in-Read.is at read-front.ensures)
-    (rw c.in-Read-read_back.is at read_back.ensures)
+pub returns : goal.returns
+returns c = lines_done c.args.file.now c.if-file-gt-MAX_FILE.false c.in_ok-front.ensures c.in_ok-back.ensures

@@ -1,5 +1,4 @@
 -- The invariant: so many rows are read.
-use Prim.Native.Nat.{◌-◌, ◌≤◌}
 use lib.ListN.{drop}
 use Rattle.job.specs.Lines.{lines_of}
 use Rattle.job_lines.proofs.Progress.{RowsRead}
@@ -7,8 +6,4 @@ use Rattle.job_lines.proofs.read_rows.Given as goal
 
 abbrev pub invariant-loop-k : goal.invariant-loop-k
 invariant-loop-k l =
-    (l.k ≤ l.count)
-    × RowsRead l.key l.width l.count l.line (lines_of (drop l.at l.file)) l.file l.initial.out l.out l.start l.k l.used
-
-abbrev pub decreases-loop-k : goal.decreases-loop-k
-decreases-loop-k l = l.count - l.k
+    RowsRead l.key l.width l.count l.line (lines_of (drop l.at l.file)) l.file l.initial.out l.out l.start l.k l.used

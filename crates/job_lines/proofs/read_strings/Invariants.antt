@@ -1,5 +1,4 @@
 -- The invariant: so many strings are read.
-use Prim.Native.Nat.{◌-◌, ◌≤◌}
 use lib.ListN.{drop}
 use Rattle.job.specs.Lines.{lines_of}
 use Rattle.job_lines.proofs.Progress.{StringsRead}
@@ -7,9 +6,5 @@ use Rattle.job_lines.proofs.read_strings.Given as goal
 
 abbrev pub invariant-loop-k : goal.invariant-loop-k
 invariant-loop-k l =
-    (l.k ≤ l.count)
-    × StringsRead l.count l.line
+    StringsRead l.count l.line
     (lines_of (drop l.at l.file)) l.file l.initial.bytes l.initial.ends l.bytes l.ends l.start l.k l.used
-
-abbrev pub decreases-loop-k : goal.decreases-loop-k
-decreases-loop-k l = l.count - l.k
