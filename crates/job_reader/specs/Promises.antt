@@ -1,35 +1,17 @@
 -- What the reader of job files promises: the counts and the tables that the definition of reading gives, or the
 -- refusal.
-use Rattle.std.specs.Prelude.{ℕ, ◌≡◌, Bool, cond, ◌&&◌, length, leb}
+use Rattle.std.specs.Prelude.{◌≡◌, Bool, cond, ◌&&◌, length, leb, Result, Ok, Err}
 use Rattle.tables.specs.Tables.{Tables}
-use Rattle.tables.specs.Refusals.{code_of, place_of, Coded}
-use Rattle.tables.specs.declared.Verdict.{Verdict}
-use Rattle.tables.specs.declared.Verdict.TheVariants.{Passed, Refused}
+use Rattle.tables.specs.Codes.{refusal_at}
+use Rattle.tables.specs.declared.refusals.Code.TheVariants.{Room as room_code, Line}
+use Rattle.tables.specs.declared.refusals.Refusal.{Refusal}
 use Rattle.schema.specs.Rows.{rows_of}
 use Rattle.instance.specs.Nodes.{nodes_of}
 use Rattle.job.specs.Reading.{no_tables, Reading, read, wrong}
 use Rattle.job_lines.specs.Promises.{Room}
-use Rattle.job_reader.specs.declared.JobRead.{JobRead}
-use Rattle.job_reader.specs.declared.JobRead.TheVariants.{Read, NotRead}
+use Rattle.job_reader.specs.declared.Counts.{Counts}
 
--- what an answer says of refusal; `code_of` and `place_of` of it are the code and place of FORMAT, "Codes and places"
-abbrev pub read_verdict : JobRead → Verdict
-read_verdict (Read bytes strings rows nodes) = Passed
-read_verdict (NotRead code place) = Refused code place
-
--- how many bytes, strings, schema rows and instance rows
-pub record Counts : Type 0 where
-  pub bytes : ℕ
-  pub strings : ℕ
-  pub rows : ℕ
-  pub nodes : ℕ
-
--- of an answer: 0 at a refusal
-abbrev pub counts_of : JobRead → Counts
-counts_of (Read bytes strings rows nodes) = record { bytes = bytes; strings = strings; rows = rows; nodes = nodes }
-counts_of (NotRead code place) = record { bytes = 0; strings = 0; rows = 0; nodes = 0 }
-
--- of tables
+-- how many bytes, strings, schema rows and instance rows tables have
 abbrev pub counts_in : Tables → Counts
 counts_in t =
     record {
@@ -45,24 +27,16 @@ fits t room =
     leb (length t.strings.bytes) room.bytes && leb (length t.strings.ends) room.ends
     && leb (length t.schema) room.schema && leb (length t.instance) room.instance
 
--- 13 where a line is wrong; then 12 where an output is too short
-abbrev pub read_code : Reading → Room → ℕ
-read_code (wrong line) room = 13
-read_code (read t) room = cond (fits t room) 0 12
-
--- the first wrong line
-abbrev pub read_place : Reading → ℕ
-read_place (wrong line) = line
-read_place (read t) = 0
+-- 13 with the first wrong line; then 12 at 0 where an output is too short; otherwise the counts
+abbrev pub read_answer : Reading → Room → Result Counts Refusal
+read_answer (wrong line) room = Err (refusal_at Line line)
+read_answer (read t) room = cond (fits t room) (Ok (counts_in t)) (Err (refusal_at room_code 0))
 
 -- the tables that are given: none at a refusal
 abbrev pub given : Reading → Room → Tables
 given (wrong line) room = no_tables
 given (read t) room = cond (fits t room) t no_tables
 
--- the answer
-pub record JobAnswer (reading : Reading) (room : Room) (r : JobRead) : Type 0 where
-  pub code : code_of (read_verdict r) ≡ read_code reading room
-  pub place : place_of (read_verdict r) ≡ read_place reading
-  pub counts : counts_of r ≡ counts_in (given reading room)
-  pub coded : Coded (read_verdict r)
+-- the answer; the number of its code and its place are those of FORMAT, "Codes and places"
+abbrev pub JobAnswer : Reading → Room → Result Counts Refusal → Type 0
+JobAnswer reading room r = r ≡ read_answer reading room

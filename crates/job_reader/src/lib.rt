@@ -6,42 +6,27 @@ ghost use Rattle.job.specs.Reading.{read_job};
 ghost use Rattle.job_lines.specs.Promises.{room_of, OutputsHold};
 ghost use Rattle.job_reader.specs.Promises.{given, JobAnswer};
 
-use job_lines::Held;
+use job_lines::Lengths;
+use tables::{Code, Refusal};
 
-// What a job file reads as: how many bytes, strings, schema rows and instance rows, or the refusal with its code and
-// place.
-#[derive(Clone, Copy)]
-pub enum JobRead {
-    Read(u32, u32, u32, u32),
-    NotRead(u32, u32),
+// How many bytes, strings, schema rows and instance rows a job file has.
+#[derive(Clone, Copy, Debug, PartialEq, Eq)]
+pub struct Counts {
+    pub bytes: u32,
+    pub strings: u32,
+    pub rows: u32,
+    pub nodes: u32,
 }
 
 // Whether four tables fit in four outputs.
-fn fit(
-    b: usize,
-    s: usize,
-    r: usize,
-    i: usize,
-    bytes: usize,
-    ends: usize,
-    schema: usize,
-    instance: usize,
-) -> bool
-    ensures { result ≡ (leb b bytes && leb s ends && leb r schema && leb i instance) }
+fn fit(lengths: Lengths, room: Lengths) -> bool
+    ensures { result ≡ (leb lengths.bytes room.bytes && leb lengths.ends room.ends
+        && leb lengths.schema room.schema && leb lengths.instance room.instance) }
 {
-    if bytes < b {
-        return false;
-    }
-    if ends < s {
-        return false;
-    }
-    if schema < r {
-        return false;
-    }
-    if instance < i {
-        return false;
-    }
-    true
+    lengths.bytes <= room.bytes
+        && lengths.ends <= room.ends
+        && lengths.schema <= room.schema
+        && lengths.instance <= room.instance
 }
 
 // A job file into four lent tables: refused by 13 at the first wrong line, then by 12 at 0 where an output is too
@@ -52,30 +37,29 @@ pub fn read_job(
     ends: &mut [u32],
     schema: &mut [u32],
     instance: &mut [u32],
-) -> JobRead
+) -> Result<Counts, Refusal>
     ensures answer { JobAnswer (read_job file.now) (room_of bytes.old ends.old schema.old instance.old) result }
     ensures outputs { OutputsHold
         (given (read_job file.now) (room_of bytes.old ends.old schema.old instance.old))
         (room_of bytes.old ends.old schema.old instance.old) bytes.new ends.new
         schema.new instance.new }
 {
-    match job_lines::read_tables(file, bytes, ends, schema, instance) {
-        Held::Wrong(line) => JobRead::NotRead(13, line),
-        Held::Tables(b, s, r, i) => {
-            if fit(
-                b,
-                s,
-                r,
-                i,
-                bytes.len(),
-                ends.len(),
-                schema.len(),
-                instance.len(),
-            ) {
-                return JobRead::Read(b as u32, s as u32, (r / 3) as u32, (i / 5) as u32);
-            }
-            job_lines::zero_outputs(bytes, ends, schema, instance);
-            JobRead::NotRead(12, 0)
-        }
+    let held = job_lines::read_tables(file, bytes, ends, schema, instance);
+    let lengths = held.map_err(|line| Code::Line.at(line))?;
+    let room = Lengths {
+        bytes: bytes.len(),
+        ends: ends.len(),
+        schema: schema.len(),
+        instance: instance.len(),
+    };
+    if !fit(lengths, room) {
+        job_lines::zero_outputs(bytes, ends, schema, instance);
+        return Err(Code::Room.at(0));
     }
+    Ok(Counts {
+        bytes: lengths.bytes as u32,
+        strings: lengths.ends as u32,
+        rows: (lengths.schema / 3) as u32,
+        nodes: (lengths.instance / 5) as u32,
+    })
 }

@@ -1,64 +1,34 @@
--- The three ways out: a wrong line, tables that fit, and tables that do not, whose outputs are zeroed again; lengths
--- never change.
+-- What is held keeps the limits of a job, and is given where it fits.
+use mathlib.Core.Path.{◌≡◌, ◌∙◌}
 use native.Mathlib.Omega.{arith}
-use Rattle.job_lines.specs.Promises.{room_of}
-use Rattle.job_lines.proofs.Holding.{in_room}
-use Rattle.job_reader.proofs.Answer.{small, line_wrong, tables_fit, tables_short}
+use borrow.Author.Rules.{rules}
+use Rattle.std.specs.Prelude.{Ok}
+use Rattle.job.specs.Reading.{read_job}
+use Rattle.job_reader.proofs.Answer.{small, tables_given}
 use Rattle.job_reader.proofs.read_job.Goals as goal
 
 pub overflow_cast-result : goal.overflow_cast-result
 overflow_cast-result c =
-    let l = small c.args.file.now
-    c.read_tables.ensures.answer c.in-Tables.is in
-    omega (arith, l.few_bytes)
+    let held : Ok c.in_ok-lengths.lengths ≡ c.read_tables-held.result = search rules in
+    omega (arith, (small c.args.file.now (held ∙ c.read_tables-held.ensures.answer)).few_bytes)
 
-pub overflow_cast-result-then-fit : goal.overflow_cast-result-then-fit
-overflow_cast-result-then-fit c =
-    let l = small c.args.file.now
-    c.read_tables.ensures.answer c.in-Tables.is in
-    omega (arith, l.few_strings)
+pub overflow_cast-result-2 : goal.overflow_cast-result-2
+overflow_cast-result-2 c =
+    let held : Ok c.in_ok-lengths.lengths ≡ c.read_tables-held.result = search rules in
+    omega (arith, (small c.args.file.now (held ∙ c.read_tables-held.ensures.answer)).few_strings)
 
-pub overflow_cast-result-then-fit-2 : goal.overflow_cast-result-then-fit-2
-overflow_cast-result-then-fit-2 c =
-    let l = small c.args.file.now
-    c.read_tables.ensures.answer c.in-Tables.is in
-    omega (arith, l.few_rows)
+pub overflow_cast-result-3 : goal.overflow_cast-result-3
+overflow_cast-result-3 c =
+    let held : Ok c.in_ok-lengths.lengths ≡ c.read_tables-held.result = search rules in
+    omega (arith, (small c.args.file.now (held ∙ c.read_tables-held.ensures.answer)).few_rows)
 
-pub overflow_cast-result-then-fit-3 : goal.overflow_cast-result-then-fit-3
-overflow_cast-result-then-fit-3 c =
-    let l = small c.args.file.now
-    c.read_tables.ensures.answer c.in-Tables.is in
-    omega (arith, l.few_nodes)
+pub overflow_cast-result-4 : goal.overflow_cast-result-4
+overflow_cast-result-4 c =
+    let held : Ok c.in_ok-lengths.lengths ≡ c.read_tables-held.result = search rules in
+    omega (arith, (small c.args.file.now (held ∙ c.read_tables-held.ensures.answer)).few_nodes)
 
-pub returns-then-fit : goal.returns-then-fit
-returns-then-fit c =
-    let args = c.args in
-    let room = room_of args.bytes.now args.ends.now args.schema.now args.instance.now in
-    let read-tables = c.read_tables in
-    let p = tables_fit {room = room} args.file.now read-tables.new.bytes read-tables.new.ends
-    read-tables.new.schema read-tables.new.instance read-tables.ensures.outputs
-    read-tables.ensures.answer c.in-Tables.is c.fit.ensures c.if-fit.true in
-    record { answer = p.answer; outputs = p.outputs }
-
-pub returns-in-Wrong : goal.returns-in-Wrong
-returns-in-Wrong c =
-    let args = c.args in
-    let room = room_of args.bytes.now args.ends.now args.schema.now args.instance.now in
-    let read-tables = c.read_tables in
-    let p = line_wrong {room = room} args.file.now read-tables.new.bytes
-    read-tables.new.ends read-tables.new.schema read-tables.new.instance
-    read-tables.ensures.outputs read-tables.ensures.answer c.in-Wrong.is in
-    record { answer = p.answer; outputs = p.outputs }
-
-pub returns-else-fit : goal.returns-else-fit
-returns-else-fit c =
-    let args = c.args in
-    let room = room_of args.bytes.now args.ends.now args.schema.now args.instance.now in
-    let read-tables = c.read_tables in
-    let zero-outputs = c.zero_outputs in
-    let zeros = in_room {other = room} zero-outputs.ensures read-tables.auto.bytes
-    read-tables.auto.ends read-tables.auto.schema read-tables.auto.instance in
-    let p = tables_short {room = room} args.file.now read-tables.new.bytes read-tables.new.ends
-    read-tables.new.schema read-tables.new.instance read-tables.ensures.outputs
-    read-tables.ensures.answer c.in-Tables.is c.fit.ensures c.if-fit.false zeros in
-    record { answer = p.answer; outputs = p.outputs }
+pub returns-clause-outputs : goal.returns-clause-outputs
+returns-clause-outputs c =
+    let held : Ok c.in_ok-lengths.lengths ≡ c.read_tables-held.result = search rules in
+    tables_given (read_job c.args.file.now) c.read_tables-held.ensures.outputs (held ∙ c.read_tables-held.ensures.answer)
+    c.if-not-fit.ensures
