@@ -61,3 +61,22 @@ number_positive Line = omega arith
 -- what the exit of a `?` returns
 pub exit : {A : Type 0} {r : Refusal} (w : Result A Refusal) → IsErrAnd w (λ y. y ≡ r) → w ≡ Err r
 exit w l = let p = err_from_is_err_and w l in p.1 ∙ ap Err p.2
+
+-- two answers that are equal say the same
+module _ {A : Type 0} where
+  pub ok_err : {x : A} {r : Refusal} → Ok x ≡ Err r → ⊥
+  ok_err e = true≢false (ap is_ok e)
+
+  pub ok_same : {x y : A} → ◌≡◌ {A = Result A Refusal} (Ok x) (Ok y) → x ≡ y
+  ok_same {x} {y} e = ap answer e
+    where
+      answer : Result A Refusal → A
+      answer (Ok a) = a
+      answer (Err r) = x
+
+  pub err_same : {r q : Refusal} → ◌≡◌ {A = Result A Refusal} (Err r) (Err q) → r ≡ q
+  err_same {r} {q} e = ap refusal e
+    where
+      refusal : Result A Refusal → Refusal
+      refusal (Ok a) = r
+      refusal (Err f) = f
