@@ -12,14 +12,13 @@ ghost use Rattle.matching_contents.specs.Contents.{Counted, RightRow, Begins, it
 fn is_attribute(instance: &[u32], e: u32, r: u32) -> bool
     ensures { result ≡ is_attribute instance.now e r }
 {
-    (instance::parent(instance, r) == e) & (instance::kind(instance, r) == instance::ATTRIBUTE)
+    instance::parent(instance, r) == e && instance::kind(instance, r) == instance::ATTRIBUTE
 }
 
 fn is_child(instance: &[u32], e: u32, r: u32) -> bool
     ensures { result ≡ is_child instance.now e r }
 {
-    let kind = instance::kind(instance, r);
-    (instance::parent(instance, r) == e) & ((kind == instance::ELEMENT) | (kind == instance::TEXT))
+    instance::parent(instance, r) == e && instance::is_child(instance::kind(instance, r))
 }
 
 // How many rows right after element e are its attributes, counted to 64. The caller shows that e is before row 1,024.
@@ -27,14 +26,12 @@ pub fn attributes(instance: &[u32], e: u32) -> u32
     requires { e < max_nodes }
     ensures { Counted instance.now e result }
 {
-    let mut x: u32 = 0;
-    while x <= instance::MAX_WIDTH {
+    for x in 0..instance::MAX_WIDTH + 1 {
         if !is_attribute(instance, e, e + 1 + x) {
             return x;
         }
-        x += 1;
     }
-    x
+    instance::MAX_WIDTH + 1
 }
 
 // Row r becomes word n where it is a child of element e; how many children there are then, when there were n.
@@ -44,10 +41,11 @@ fn add_child(instance: &[u32], e: u32, r: u32, n: u32, rows: &mut [u32]) -> u32
     ensures stored { rows.new ≡ cond (is_child instance.now e r) (set rows.old n r) rows.old }
 {
     if is_child(instance, e, r) {
-        tables::put_u32(rows, n as usize, r);
-        return n + 1;
+        tables::put(rows, n as usize, r);
+        n + 1
+    } else {
+        n
     }
-    n
 }
 
 // The rows of the children of a row of a table that is right, as far as there is room, and how many there are; the
@@ -59,13 +57,11 @@ pub fn children(instance: &[u32], e: u32, rows: &mut [u32]) -> u32
 {
     let nodes = instance.len() / 5;
     let mut n: u32 = 0;
-    let mut r: u32 = e + 1;
-    while (r as usize) < nodes {
+    for r in e + 1..nodes as u32 {
         if instance::parent(instance, r) < e {
             return n;
         }
         n = add_child(instance, e, r, n, rows);
-        r += 1;
     }
     n
 }
@@ -75,23 +71,19 @@ pub fn of_kind(instance: &[u32], rows: &[u32], n: u32, kind: u32) -> u64
     requires { n ≤ max_width }
     ensures { Collects (of_kind instance.now rows.now kind) n result }
 {
-    let mut set: u64 = 0;
-    let mut k: u32 = 0;
-    while k < n {
-        let row = tables::word(rows, k as usize);
-        set = sets::add_if(set, k, instance::kind(instance, row) == kind);
-        k += 1;
-    }
-    set
+    sets::collect(n, |k| {
+        instance::kind(instance, tables::at(rows, k as usize)) == kind
+    })
 }
 
 fn item_word(instance: &[u32], r: u32) -> u32
     ensures { result ≡ item_word instance.now r }
 {
     if instance::kind(instance, r) == instance::TEXT {
-        return instance::field_a(instance, r);
+        instance::field_a(instance, r)
+    } else {
+        r
     }
-    r
 }
 
 // Each of the first n rows, as far as there are any, becomes its item: a text its string, an element its row. The rows
@@ -99,10 +91,8 @@ fn item_word(instance: &[u32], r: u32) -> u32
 pub fn to_items(instance: &[u32], rows: &mut [u32], n: u32)
     ensures { Itemized instance.now rows.old rows.new n }
 {
-    let mut k: u32 = 0;
-    while k < n {
-        let v = item_word(instance, tables::word(rows, k as usize));
-        tables::put_u32(rows, k as usize, v);
-        k += 1;
+    for k in 0..n {
+        let v = item_word(instance, tables::at(rows, k as usize));
+        tables::put(rows, k as usize, v);
     }
 }

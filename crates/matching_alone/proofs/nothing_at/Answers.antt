@@ -40,9 +40,10 @@ pub returns-then-a-2 : goal.returns-then-a-2
 returns-then-a-2 c =
     let a = c.args in
     let first = marked_told a.nothing.now c.is_marked-a.ensures c.field_a.ensures in
+    let second = marked_told a.nothing.now c.is_marked-b.ensures c.field_b.ensures in
     nothing_both a.schema.now a.nothing.now a.p (λ n. omega (arith, c.kind-kind.ensures))
-    (byte_told c.is_marked-b.result (decides_same c.is_marked-b.result
-    (λ d. (said_yes first c.if-a-2.true, d)) (λ d. d.1) (marked_told a.nothing.now c.is_marked-b.ensures c.field_b.ensures)))
+    (byte_told c.is_marked-b.result
+    (decides_same c.is_marked-b.result (λ d. (said_yes first c.if-a-2.true, d)) (λ d. d.1) second))
 
 pub returns-else-a-2 : goal.returns-else-a-2
 returns-else-a-2 c =

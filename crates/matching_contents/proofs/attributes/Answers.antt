@@ -6,20 +6,17 @@ use native.Mathlib.Omega.{arith}
 use Rattle.matching_contents.proofs.attributes.Goals as goal
 
 pub loop-x-init : goal.loop-x-init
-loop-x-init c = (omega arith, λ y h. absurd (omega arith))
+loop-x-init c = λ y h. absurd (omega arith)
 
 pub returns-then-not-is_attribute : goal.returns-then-not-is_attribute
 returns-then-not-is_attribute c =
     counted_last _ _ _ c.is_attribute.ensures (ap not c.if-not-is_attribute.true)
-    (omega arith) c.loop-x.invariant.1
+    (omega arith) c.loop-x.invariant
 
 pub loop-x-preserved : goal.loop-x-preserved
 loop-x-preserved c =
-    let s = c.args in (
-      omega arith,
-      counted_more s.instance.now s.e _ c.is_attribute.ensures
-          (ap not c.if-not-is_attribute.false) c.loop-x.invariant.1,
-    )
+    counted_more c.args.instance.now c.args.e _ c.is_attribute.ensures
+    (ap not c.if-not-is_attribute.false) c.loop-x.invariant
 
 pub returns : goal.returns
-returns c = counted_many _ _ _ (omega arith) c.loop-x.invariant.1
+returns c = counted_many _ _ _ (omega arith) (λ x h. c.loop-x.invariant x (omega arith))

@@ -1,4 +1,0 @@
-use Rattle.matching_contents.proofs.is_attribute.Goals as goal
-
-pub returns : goal.returns
-returns c = rw (c.parent.ensures, c.kind.ensures)
