@@ -22,14 +22,14 @@ fn attribute_word(instance: &[u32], e: u32, x: u32, field: usize) -> u32
     requires { field < 5 }
     ensures { result ≡ get_or instance.now (attribute_row e x * 5 + field) 0 }
 {
-    tables::word(instance, (e as usize + 1 + x as usize) * 5 + field)
+    tables::at(instance, (e as usize + 1 + x as usize) * 5 + field)
 }
 
 // Whether an entry of a table of bytes is 1.
 fn is_set(table: &[u8], row: u32, k: u32) -> bool
     ensures { result ≡ eqb (get_or table.now (row * 512 + k) 0) 1 }
 {
-    tables::byte(table, row as usize * STRIDE + k as usize) == 1
+    tables::at(table, row as usize * STRIDE + k as usize) == 1
 }
 
 // Whether string v weakly matches the pattern at row q.
@@ -37,7 +37,7 @@ fn value_fits(alone: &[u8], nothing: &[u8], blank: &[u8], q: u32, v: u32) -> boo
     ensures { result ≡ value_fits alone.now nothing.now blank.now q v }
 {
     is_set(alone, q, v)
-        | ((tables::byte(blank, v as usize) == 1) & (tables::byte(nothing, q as usize) == 1))
+        | ((tables::at(blank, v as usize) == 1) & (tables::at(nothing, q as usize) == 1))
 }
 
 // Whether the name of an instance row is in the class at schema row c.
@@ -69,14 +69,9 @@ fn strings_alone(alone: &[u8], items: &[u32], texts: u64, p: u32) -> u64
     requires { length items.now ≤ max_width }
     ensures { Collects (string_alone alone.now items.now texts p) (length items.now) result }
 {
-    let mut set: u64 = 0;
-    let mut k: u32 = 0;
-    while (k as usize) < items.len() {
-        let item = tables::word(items, k as usize);
-        set = sets::add_if(set, k, sets::has(texts, k) & is_set(alone, p, item));
-        k += 1;
-    }
-    set
+    sets::collect(items.len() as u32, |k| {
+        sets::has(texts, k) & is_set(alone, p, tables::at(items, k as usize))
+    })
 }
 
 // The elements among the items that are paired with definition d.
@@ -84,14 +79,9 @@ fn elements_paired(pairs: &[u8], items: &[u32], texts: u64, d: u32) -> u64
     requires { length items.now ≤ max_width }
     ensures { Collects (element_paired pairs.now items.now texts d) (length items.now) result }
 {
-    let mut set: u64 = 0;
-    let mut k: u32 = 0;
-    while (k as usize) < items.len() {
-        let item = tables::word(items, k as usize);
-        set = sets::add_if(set, k, !sets::has(texts, k) & is_set(pairs, item, d));
-        k += 1;
-    }
-    set
+    sets::collect(items.len() as u32, |k| {
+        !sets::has(texts, k) & is_set(pairs, tables::at(items, k as usize), d)
+    })
 }
 
 // The elements among the items whose names are in the class at row c.
@@ -99,18 +89,9 @@ fn elements_named(schema: &[u32], instance: &[u32], items: &[u32], texts: u64, c
     requires { length items.now ≤ max_width }
     ensures { Collects (element_named schema.now instance.now items.now texts c) (length items.now) result }
 {
-    let mut set: u64 = 0;
-    let mut k: u32 = 0;
-    while (k as usize) < items.len() {
-        let item = tables::word(items, k as usize);
-        set = sets::add_if(
-            set,
-            k,
-            !sets::has(texts, k) & row_named(schema, instance, c, item),
-        );
-        k += 1;
-    }
-    set
+    sets::collect(items.len() as u32, |k| {
+        !sets::has(texts, k) & row_named(schema, instance, c, tables::at(items, k as usize))
+    })
 }
 
 // The attributes of element e whose names are in the class at row c.
@@ -118,13 +99,7 @@ fn attributes_named(schema: &[u32], instance: &[u32], e: u32, attributes: u32, c
     requires { attributes ≤ max_width }
     ensures { Collects (attribute_named schema.now instance.now e c) attributes result }
 {
-    let mut set: u64 = 0;
-    let mut x: u32 = 0;
-    while x < attributes {
-        set = sets::add_if(set, x, attribute_named(schema, instance, e, c, x));
-        x += 1;
-    }
-    set
+    sets::collect(attributes, |x| attribute_named(schema, instance, e, c, x))
 }
 
 // The attributes of element e whose values weakly match the pattern at row q.
@@ -140,14 +115,9 @@ fn attributes_fitting(
     requires { attributes ≤ max_width }
     ensures { Collects (attribute_fits instance.now alone.now nothing.now blank.now e q) attributes result }
 {
-    let mut set: u64 = 0;
-    let mut x: u32 = 0;
-    while x < attributes {
-        let v = attribute_word(instance, e, x, 4);
-        set = sets::add_if(set, x, value_fits(alone, nothing, blank, q, v));
-        x += 1;
-    }
-    set
+    sets::collect(attributes, |x| {
+        value_fits(alone, nothing, blank, q, attribute_word(instance, e, x, 4))
+    })
 }
 
 // The union of the words of the operands of row p.

@@ -3,4 +3,4 @@ use native.Mathlib.Numerals.{add-one}
 use Rattle.matching_marks.proofs.attribute_word.Goals as goal
 
 pub returns : goal.returns
-returns c = rw (← add-one c.args.e) c.word.ensures
+returns c = rw (← add-one c.args.e) c.at.ensures

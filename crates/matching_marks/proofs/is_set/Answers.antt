@@ -2,4 +2,4 @@
 use Rattle.matching_marks.proofs.is_set.Goals as goal
 
 pub returns : goal.returns
-returns c = rw c.byte.ensures
+returns c = rw c.at.ensures

@@ -2,4 +2,4 @@
 use Rattle.matching_marks.proofs.value_fits.Goals as goal
 
 pub returns : goal.returns
-returns c = rw (c.is_set.ensures, c.byte.ensures, c.byte-2.ensures)
+returns c = rw (c.is_set.ensures, c.at.ensures, c.at-2.ensures)
