@@ -1,7 +1,7 @@
 -- From the table of pairs, the definitions and the list of what the table marks to the match list and the answer.
 use Prim.Native.Nat.{ℕ, ◌≤◌, ◌<◌}
 use mathlib.Core.Path.{◌≡◌, sym, ◌∙◌, subst, subst⁻¹}
-use mathlib.Core.Bool.{Bool, true, false}
+use mathlib.Core.Bool.{Bool, true}
 use mathlib.Core.Logic.{◌↔◌}
 use mathlib.Core.List.{List, Memᴰ}
 use native.Mathlib.Omega.{arith}
@@ -25,13 +25,12 @@ use Rattle.matching_rules.proofs.RowPatterns.{has_kind}
 use Rattle.matching_rules.proofs.Validity.{valid}
 use Rattle.matching_pairs.specs.Pairs.{TablesPass, Pairable, PairsRight}
 use Rattle.matching_list.specs.Listing.{is_marked, marked_pairs, ListsPairs}
-use Rattle.matching_list.specs.declared.Listed.{Listed}
-use Rattle.matching_list.specs.declared.Listed.TheVariants as listed
+use Rattle.std.specs.Prelude.{Result, Ok, Err}
+use Rattle.matching_list.specs.declared.TooShort.{TooShort}
 use Rattle.matching_list.proofs.Order.{marked_rising, marked_lists}
 use Rattle.matching_list.proofs.Putting as put
 use Rattle.matching_list.proofs.Root.{root_element}
-use Rattle.matching_list.specs.MatchList.{MatchList, ListWritten, ListAnswer}
-use Rattle.matching_list.specs.declared.Answer.TheVariants as answer
+use Rattle.matching_list.specs.MatchList.{MatchList, ListAnswer}
 
 -- a table of so many entries has one for every instance row and every schema row
 pub whole_table : {J : Tables} → TablesPass J → Pairable J (replicate {A = ℕ} 524288 0)
@@ -109,30 +108,29 @@ module _ {J : Tables} (pass : TablesPass J) where
 
   module _ {table rows : List ℕ} {n : ℕ} (right : PairsRight J table)
       (definitions : Definitions s rows n) (long : n ≤ length rows)
-      {room : ℕ} {list : List ℕ} {r : Listed} (lists : ListsPairs table (take n rows) (nodes_of t) room list r) where
+      {room : ℕ} {list : List ℕ} {r : Result ℕ TooShort}
+      (lists : ListsPairs table (take n rows) (nodes_of t) room list r) where
     abbrev marked : List (ℕ × ℕ)
     marked = marked_pairs table (take n rows) (nodes_of t)
 
     all : MatchList J marked
     all = is_match_list right definitions long
 
-    pub too_short : r ≡ listed.TooShort → ListAnswer J room list answer.TooShort
+    pub too_short : {x y : TooShort} → r ≡ Err x → ListAnswer J room list (Err y)
     too_short e = record { pairs = marked; all = all; says = put.too_short lists e }
 
-    module _ {number : ℕ} (e : r ≡ listed.Pairs number) where
-      written : (valid : Bool) → Decides (Valid J) valid → ListWritten J marked room list number valid
-      written valid d =
-          let l = put.listed lists e in
-          record {
+    pub told : {number : ℕ} {valid : Bool} → r ≡ Ok number → Decides (Valid J) valid
+        → ListAnswer J room list (Ok (record { valid = valid; pairs = number }))
+    told {valid = valid} e d =
+        let l = put.listed lists e in
+        record {
+          pairs = marked;
+          all = all;
+          says = record {
             fit = l.1;
             words = l.2;
             counted = l.0;
             rooted = decides_same valid (root_paired all).0 (root_paired all).1 d;
             derived = d;
-          }
-
-      pub is_valid : Decides (Valid J) true → ListAnswer J room list (answer.Valid number)
-      is_valid d = record { pairs = marked; all = all; says = written true d }
-
-      pub not_valid : Decides (Valid J) false → ListAnswer J room list (answer.NotValid number)
-      not_valid d = record { pairs = marked; all = all; says = written false d }
+          };
+        }

@@ -6,16 +6,16 @@ use Prim.Native.Nat.{ℕ, suc, ◌+◌, ◌*◌, ◌≤◌, ◌<◌}
 use native.Mathlib.Nat.{zero-add}
 use native.Mathlib.Omega.{arith}
 use borrow.Author.Tests.{eq-eqb, ne_eqb}
-use lib.ListN.{length, get_or, set, length-append, length-set, length-replicate}
-use lib.Seq.{sets, set_out, length-sets}
+use lib.ListN.{length, get_or, set, length-append, length-replicate}
+use lib.Seq.{sets, length-sets}
+use Rattle.std.specs.Prelude.{Result, Ok, Err}
 use Rattle.tables.proofs.Stores.{sets_append, sets_laid}
 use Rattle.tables.specs.Outputs.{zeros, laid}
 use Rattle.schema.specs.RowRule.{max_rows}
 use Rattle.matching_rules.specs.Listed.{pair_words}
 use Rattle.matching_list.specs.Listing.{pair_if, row_pairs, marked_pairs, PutPairs, ListsPairs}
 use Rattle.matching_list.specs.Listing.{whole, short, KeepsListed, stays, taken_back}
-use Rattle.matching_list.specs.declared.Listed.{Listed}
-use Rattle.matching_list.specs.declared.Listed.TheVariants.{Pairs, TooShort}
+use Rattle.matching_list.specs.declared.TooShort.{TooShort}
 
 words_append : (a b : List (ℕ × ℕ)) → pair_words (a ++ b) ≡ pair_words a ++ pair_words b
 unfolding pair_words
@@ -57,23 +57,6 @@ pub put_both : (list : List ℕ) (n e d : ℕ)
 unfolding pair_words
 put_both list n e d = record { holds = let z : n * 2 + 1 ≡ suc (n * 2) = omega arith in rw z; number = refl }
 
-pub put_first : (list : List ℕ) (n e d : ℕ) → length list ≤ n * 2 + 1
-    → PutPairs list n ((e, d) ∷ []) (set list (n * 2) e) (n + 1)
-unfolding pair_words
-put_first list n e d h = record {
-  holds = sym (set_out (set list (n * 2) e) (suc (n * 2)) d (let z = length-set list (n * 2) e in omega arith));
-  number = refl;
-}
-
-pub put_neither : (list : List ℕ) (n e d : ℕ) → length list ≤ n * 2 → PutPairs list n ((e, d) ∷ []) list (n + 1)
-unfolding pair_words
-put_neither list n e d h =
-    let f : set list (n * 2) e ≡ list = set_out list (n * 2) e h in
-    record {
-      holds = sym (ap (λ (o : List ℕ). set o (suc (n * 2)) d) f ∙ set_out list (suc (n * 2)) d (omega arith));
-      number = refl;
-    }
-
 -- the pair that a table marks
 pub marked : (table : List ℕ) (e d : ℕ) → get_or table (e * max_rows + d) 0 ≡ 1 → pair_if table e d ≡ (e, d) ∷ []
 marked table e d h = rw (eq-eqb _ _ h)
@@ -106,24 +89,24 @@ no_rows table definitions = refl
 module _ {table definitions : List ℕ} {rows room : ℕ} where
   pub short_list : {list end : List ℕ} {m : ℕ} → room < m * 2
       → PutPairs list 0 (marked_pairs table definitions rows) end m → {zeroed : List ℕ}
-      → zeroed ≡ zeros room → ListsPairs table definitions rows room zeroed TooShort
+      → zeroed ≡ zeros room → ListsPairs table definitions rows room zeroed (Err (record {}))
   short_list h p z = let k = p.number in short (omega arith) refl z
 
   pub whole_list : {list : List ℕ} {m : ℕ} → m * 2 ≤ room → PutPairs (zeros room) 0
-      (marked_pairs table definitions rows) list m → ListsPairs table definitions rows room list (Pairs m)
+      (marked_pairs table definitions rows) list m → ListsPairs table definitions rows room list (Ok m)
   whole_list h p =
       let k = p.number in
       let l = words_length (marked_pairs table definitions rows) in
-      whole (omega arith) (ap Pairs (p.number ∙ zero-add _))
+      whole (omega arith) (ap Ok (p.number ∙ zero-add _))
       (p.holds ∙ sets_laid room (pair_words (marked_pairs table definitions rows)) (omega arith))
 
   -- what is put into zeros and kept where it fits
-  pub kept_list : {list mid end : List ℕ} {m : ℕ} {r : Listed} → list ≡ zeros room
+  pub kept_list : {list mid end : List ℕ} {m : ℕ} {r : Result ℕ TooShort} → list ≡ zeros room
       → PutPairs list 0 (marked_pairs table definitions rows) mid m
       → KeepsListed mid m end r → ListsPairs table definitions rows room end r
   kept_list {list} {mid} {m = m} z p k = go (put_length p ∙ ap length z ∙ length-replicate {A = ℕ} room 0) k
     where
-      go : {end : List ℕ} {r : Listed} → length mid ≡ room
+      go : {end : List ℕ} {r : Result ℕ TooShort} → length mid ≡ room
           → KeepsListed mid m end r → ListsPairs table definitions rows room end r
       go l (stays h e f) =
           rw (e, f) (whole_list (omega arith)
@@ -131,19 +114,20 @@ module _ {table definitions : List ℕ} {rows room : ℕ} where
       go l (taken_back h e f) = rw e (short_list (omega arith) p (f ∙ ap zeros l))
 
   -- what an answer of the listing says
-  pub listed : {list : List ℕ} {r : Listed} {n : ℕ} → ListsPairs table definitions rows room list r → r ≡ Pairs n
-      → (n ≡ length (marked_pairs table definitions rows)) × (length (marked_pairs table definitions rows) * 2 ≤ room)
+  pub listed : {list : List ℕ} {r : Result ℕ TooShort} {n : ℕ} → ListsPairs table definitions rows room list r
+      → r ≡ Ok n → (n ≡ length (marked_pairs table definitions rows))
+      × (length (marked_pairs table definitions rows) * 2 ≤ room)
       × (list ≡ laid room (pair_words (marked_pairs table definitions rows)))
   listed (whole h e l) f = (cc (sym f ∙ e), h, l)
   listed {n = n} (short h e z) f =
-      let k : TooShort ≡ Pairs n = sym e ∙ f in
+      let k : ◌≡◌ {A = Result ℕ TooShort} (Err (record {})) (Ok n) = sym e ∙ f in
       let y : ◌≡◌ {A = ℕ} 0 1 = cc in
       absurd (omega arith)
 
-  pub too_short : {list : List ℕ} {r : Listed} → ListsPairs table definitions rows room list r
-      → r ≡ TooShort → (room < length (marked_pairs table definitions rows) * 2) × (list ≡ zeros room)
-  too_short (whole h e l) f =
-      let k : TooShort ≡ Pairs (length (marked_pairs table definitions rows)) = sym f ∙ e in
+  pub too_short : {list : List ℕ} {r : Result ℕ TooShort} {x : TooShort} → ListsPairs table definitions rows room list r
+      → r ≡ Err x → (room < length (marked_pairs table definitions rows) * 2) × (list ≡ zeros room)
+  too_short {x = x} (whole h e l) f =
+      let k : ◌≡◌ {A = Result ℕ TooShort} (Err x) (Ok (length (marked_pairs table definitions rows))) = sym f ∙ e in
       let y : ◌≡◌ {A = ℕ} 0 1 = cc in
       absurd (omega arith)
   too_short (short h e z) f = (h, z)

@@ -1,12 +1,11 @@
 -- The pairs that a table marks, in order: by element row, then by definition row.
 use Rattle.std.specs.Prelude.{ℕ, zero, suc, ◌+◌, ◌*◌, ◌≤◌, ◌<◌, ◌≡◌, Bool, cond, List, [], ◌∷◌, ◌++◌, length, get_or}
-use Rattle.std.specs.Prelude.{eqb}
+use Rattle.std.specs.Prelude.{eqb, Result, Ok, Err}
 use Rattle.std.proofs.lemmas.List.Edits.{sets}
 use Rattle.tables.specs.Outputs.{zeros, laid}
 use Rattle.schema.specs.RowRule.{max_rows}
 use Rattle.matching_rules.specs.Listed.{pair_words}
-use Rattle.matching_list.specs.declared.Listed.{Listed}
-use Rattle.matching_list.specs.declared.Listed.TheVariants.{Pairs, TooShort}
+use Rattle.matching_list.specs.declared.TooShort.{TooShort}
 
 -- row e and definition d are marked
 abbrev pub is_marked : List ℕ → ℕ → ℕ → Bool
@@ -34,15 +33,16 @@ pub record PutPairs (before : List ℕ) (n : ℕ) (pairs : List (ℕ × ℕ)) (a
 
 -- the answer r and all of the list, which has so many words: the words of the marked pairs and zeros after them, or
 -- zeros where it has too few
-pub data ListsPairs (table definitions : List ℕ) (rows room : ℕ) (list : List ℕ) (r : Listed) : Type 0 where
+pub data ListsPairs (table definitions : List ℕ) (rows room : ℕ) (list : List ℕ) (r : Result ℕ TooShort) : Type 0 where
   whole : length (marked_pairs table definitions rows) * 2 ≤ room
-      → r ≡ Pairs (length (marked_pairs table definitions rows))
+      → r ≡ Ok (length (marked_pairs table definitions rows))
       → list ≡ laid room (pair_words (marked_pairs table definitions rows))
       → ListsPairs table definitions rows room list r
-  short : room < length (marked_pairs table definitions rows) * 2 → r ≡ TooShort → list ≡ zeros room
+  short : room < length (marked_pairs table definitions rows) * 2 → r ≡ Err (record {}) → list ≡ zeros room
       → ListsPairs table definitions rows room list r
 
 -- n pairs were put into a list: they stay where they fit, and are taken back to zeros where they do not
-pub data KeepsListed (before : List ℕ) (n : ℕ) (after : List ℕ) (r : Listed) : Type 0 where
-  stays : n * 2 ≤ length before → r ≡ Pairs n → after ≡ before → KeepsListed before n after r
-  taken_back : length before < n * 2 → r ≡ TooShort → after ≡ zeros (length before) → KeepsListed before n after r
+pub data KeepsListed (before : List ℕ) (n : ℕ) (after : List ℕ) (r : Result ℕ TooShort) : Type 0 where
+  stays : n * 2 ≤ length before → r ≡ Ok n → after ≡ before → KeepsListed before n after r
+  taken_back : length before < n * 2 → r ≡ Err (record {}) → after ≡ zeros (length before)
+      → KeepsListed before n after r

@@ -1,5 +1,5 @@
 -- The match list of a schema and an instance, and what is answered with it.
-use Rattle.std.specs.Prelude.{ℕ, ◌*◌, ◌≤◌, ◌<◌, ◌≡◌, Bool, true, false, length}
+use Rattle.std.specs.Prelude.{ℕ, ◌*◌, ◌≤◌, ◌<◌, ◌≡◌, Bool, Result, Ok, Err, length}
 use mathlib.Core.List.{List, Memᴰ}
 use Rattle.tables.specs.Tables.{Tables}
 use Rattle.tables.specs.Answers.{Decides}
@@ -7,8 +7,8 @@ use Rattle.tables.specs.Outputs.{zeros, laid}
 use Rattle.matching_rules.specs.Job.{Pair, StartNames}
 use Rattle.matching_rules.specs.Job as job
 use Rattle.matching_rules.specs.Listed.{Rising, Lists, pair_words}
-use Rattle.matching_list.specs.declared.Answer.{Answer}
-use Rattle.matching_list.specs.declared.Answer.TheVariants.{Valid, NotValid, TooShort}
+use Rattle.matching_list.specs.declared.Matches.{Matches}
+use Rattle.matching_list.specs.declared.TooShort.{TooShort}
 
 -- l is all pairs of an element and a definition that it is proved against, by element and then by definition, each once
 pub record MatchList (J : Tables) (l : List (ℕ × ℕ)) : Type 0 where
@@ -28,13 +28,12 @@ pub record ListWritten (J : Tables) (l : List (ℕ × ℕ)) (room : ℕ) (list :
   pub derived : Decides (job.Valid J) valid
 
 -- what each answer says of the match list l and of the list of so many words
-abbrev pub Says : (J : Tables) (l : List (ℕ × ℕ)) (room : ℕ) (list : List ℕ) → Answer → Type 0
-Says J l room list (Valid number) = ListWritten J l room list number true
-Says J l room list (NotValid number) = ListWritten J l room list number false
-Says J l room list TooShort = (room < length l * 2) × (list ≡ zeros room)
+abbrev pub Says : (J : Tables) (l : List (ℕ × ℕ)) (room : ℕ) (list : List ℕ) → Result Matches TooShort → Type 0
+Says J l room list (Ok m) = ListWritten J l room list m.pairs m.valid
+Says J l room list (Err short) = (room < length l * 2) × (list ≡ zeros room)
 
 -- the whole promise: there is a match list, and the answer is told of it
-pub record ListAnswer (J : Tables) (room : ℕ) (list : List ℕ) (r : Answer) : Type 0 where
+pub record ListAnswer (J : Tables) (room : ℕ) (list : List ℕ) (r : Result Matches TooShort) : Type 0 where
   pub pairs : List (ℕ × ℕ)
   pub all : MatchList J pairs
   pub says : Says J pairs room list r

@@ -14,21 +14,16 @@ ghost use Rattle.matching_list.specs.Listing.{pair_if, row_pairs, marked_pairs, 
 ghost use Rattle.matching_list.specs.MatchList.{ListAnswer};
 ghost use Rattle.matching_list.specs.Start.{RootAsked, StartAsked, TellsRoot, TellsValid};
 
-// Whether the instance is valid, with the number of pairs of the match list; or that the lent list is too short for
-// them.
-#[derive(Clone, Copy)]
-pub enum Answer {
-    Valid(u32),
-    NotValid(u32),
-    TooShort,
+// Whether the instance is valid, and how many pairs the match list has.
+#[derive(Clone, Copy, Debug, PartialEq, Eq)]
+pub struct Matches {
+    pub valid: bool,
+    pub pairs: u32,
 }
 
-// How many pairs there are, or that the list is too short for them.
-#[derive(Clone, Copy)]
-enum Listed {
-    Pairs(u32),
-    TooShort,
-}
+// The lent list is too short for the pairs.
+#[derive(Clone, Copy, Debug, PartialEq, Eq)]
+pub struct TooShort;
 
 // One pair after n others; what does not fit is counted and not stored.
 fn put_pair(list: &mut [u32], n: u32, e: u32, d: u32) -> u32
@@ -36,15 +31,8 @@ fn put_pair(list: &mut [u32], n: u32, e: u32, d: u32) -> u32
     ensures { PutPairs list.old n ((e, d) ∷ []) list.new result }
 {
     let at = n as usize * 2;
-    if at + 1 < list.len() {
-        list[at] = e;
-        list[at + 1] = d;
-        return n + 1;
-    }
-    if at < list.len() {
-        list[at] = e;
-        return n + 1;
-    }
+    tables::put(list, at, e);
+    tables::put(list, at + 1, d);
     n + 1
 }
 
@@ -54,10 +42,11 @@ fn put_marked(table: &[u8], e: u32, d: u32, list: &mut [u32], n: u32) -> u32
     ensures put_pairs { PutPairs list.old n (pair_if table.now e d) list.new result }
     ensures one { result ≤ n + 1 }
 {
-    if tables::byte(table, e as usize * schema::MAX_ROWS + d as usize) == 1 {
-        return put_pair(list, n, e, d);
+    if tables::at(table, e as usize * schema::MAX_ROWS + d as usize) == 1 {
+        put_pair(list, n, e, d)
+    } else {
+        n
     }
-    n
 }
 
 // The marked definitions of one row.
@@ -67,12 +56,9 @@ fn put_row(table: &[u8], definitions: &[u32], e: u32, list: &mut [u32], n: u32) 
         list.new result }
     ensures few { result ≤ n + length definitions.now }
 {
-    let mut k = 0;
     let mut m = n;
-    while k < definitions.len() {
-        let d = tables::word(definitions, k);
-        m = put_marked(table, e, d, list, m);
-        k += 1;
+    for k in 0..definitions.len() {
+        m = put_marked(table, e, definitions[k], list, m);
     }
     m
 }
@@ -82,33 +68,36 @@ fn put_rows(table: &[u8], definitions: &[u32], rows: u32, list: &mut [u32]) -> u
     requires { (rows ≤ max_nodes) × (length definitions.now ≤ max_rows) }
     ensures { PutPairs list.old 0 (marked_pairs table.now definitions.now rows) list.new result }
 {
-    let mut e: u32 = 0;
-    let mut n: u32 = 0;
-    while e < rows {
+    let mut n = 0;
+    for e in 0..rows {
         n = put_row(table, definitions, e, list, n);
-        e += 1;
     }
     n
 }
 
 // The answer for a list that n pairs were put into: zeros throughout where it is too short for them.
-fn keep_listed(words: &mut [u32], n: u32) -> Listed
+fn keep_listed(words: &mut [u32], n: u32) -> Result<u32, TooShort>
     ensures { KeepsListed words.old n words.new result }
 {
     if words.len() < n as usize * 2 {
-        tables::zero_u32(words);
-        return Listed::TooShort;
+        tables::zero(words);
+        return Err(TooShort);
     }
-    Listed::Pairs(n)
+    Ok(n)
 }
 
 // The pairs of the first rows with the definitions that the table marks, in a lent list, and zeros after them; zeros
 // throughout where the list is too short for them.
-fn list_pairs(table: &[u8], definitions: &[u32], rows: u32, list: &mut [u32]) -> Listed
+fn list_pairs(
+    table: &[u8],
+    definitions: &[u32],
+    rows: u32,
+    list: &mut [u32],
+) -> Result<u32, TooShort>
     requires { (rows ≤ max_nodes) × (length definitions.now ≤ max_rows) }
     ensures { ListsPairs table.now definitions.now rows (length list.old) list.new result }
 {
-    tables::zero_u32(list);
+    tables::zero(list);
     let n = put_rows(table, definitions, rows, list);
     keep_listed(list, n)
 }
@@ -121,10 +110,7 @@ fn matches_either(schema: &[u32], pairs: &[u8], p: u32) -> bool
 {
     let first = schema::field_a(schema, p);
     let second = schema::field_b(schema, p);
-    if root_matches(schema, pairs, first) {
-        return true;
-    }
-    root_matches(schema, pairs, second)
+    root_matches(schema, pairs, first) || root_matches(schema, pairs, second)
 }
 
 // Whether the root matches the pattern at row p, a pattern of start.
@@ -135,7 +121,7 @@ fn root_matches(schema: &[u32], pairs: &[u8], p: u32) -> bool
 {
     let kind = schema::kind(schema, p);
     match kind {
-        schema::REF => tables::byte(pairs, schema::field_a(schema, p) as usize) == 1,
+        schema::REF => tables::at(pairs, schema::field_a(schema, p) as usize) == 1,
         schema::CHOICE => matches_either(schema, pairs, p),
         _ => false,
     }
@@ -158,7 +144,7 @@ fn list_matches(
     instance: &[u32],
     pairs: &mut [u8],
     list: &mut [u32],
-) -> Answer
+) -> Result<Matches, TooShort>
     requires { Pairable (tables_of (string_table bytes.now ends.now) schema.now instance.now) pairs.old }
     ensures { ListAnswer (tables_of (string_table bytes.now ends.now) schema.now instance.now)
         (length list.old) list.new result }
@@ -167,20 +153,16 @@ fn list_matches(
     let mut rows = [0u32; schema::MAX_ROWS];
     let n = schema::definitions(schema, &mut rows) as usize;
     let nodes = instance.len() / 5;
-    let listed = list_pairs(pairs, &rows[..n], nodes as u32, list);
-    let Listed::Pairs(number) = listed else {
-        return Answer::TooShort;
-    };
-    if valid(schema, pairs) {
-        Answer::Valid(number)
-    } else {
-        Answer::NotValid(number)
-    }
+    let number = list_pairs(pairs, &rows[..n], nodes as u32, list)?;
+    Ok(Matches {
+        valid: valid(schema, pairs),
+        pairs: number,
+    })
 }
 
 // The match list of tables that pass, as the caller shows: too short exactly when the list has fewer words than the
 // pairs take, two each, and then zeros throughout; otherwise the two words of each pair, by element and then by
-// definition, each once, and zeros after them. The number is that of the pairs. Valid is answered exactly when some
+// definition, each once, and zeros after them. The number is that of the pairs. It is valid exactly when some
 // definition that start names makes a pair with the root, which is when (valid) of 9.4 has a derivation.
 pub fn match_pairs(
     bytes: &[u8],
@@ -188,7 +170,7 @@ pub fn match_pairs(
     schema: &[u32],
     instance: &[u32],
     list: &mut [u32],
-) -> Answer
+) -> Result<Matches, TooShort>
     requires { TablesPass (tables_of (string_table bytes.now ends.now) schema.now instance.now) }
     ensures { ListAnswer (tables_of (string_table bytes.now ends.now) schema.now instance.now)
         (length list.old) list.new result }

@@ -22,12 +22,12 @@ matches_either-root_matches-requires t c =
 pub matches_either-returns-then-root_matches : goal.matches_either-returns-then-root_matches
 matches_either-returns-then-root_matches t c =
     let a = c.args in
-    tells_first a.schema.now a.pairs.now a.p c.requires.0
+    rw c.if-root_matches.true (tells_first a.schema.now a.pairs.now a.p c.requires.0
     c.field_a-first.ensures c.field_b-second.ensures
-    _ c.if-root_matches.true c.root_matches.ensures
+    _ c.if-root_matches.true c.root_matches.ensures)
 
-pub matches_either-root_matches-requires-2 : goal.matches_either-root_matches-requires-2
-matches_either-root_matches-requires-2 t c =
+pub matches_either-root_matches-requires-else-root_matches : goal.matches_either-root_matches-requires-else-root_matches
+matches_either-root_matches-requires-else-root_matches t c =
     let a = c.args in
     let r = c.requires in
     let m = c.decreases in
@@ -38,12 +38,12 @@ matches_either-root_matches-requires-2 t c =
           c.field_a-first.ensures c.field_b-second.ensures r.1,
     )
 
-pub matches_either-returns : goal.matches_either-returns
-matches_either-returns t c =
+pub matches_either-returns-else-root_matches : goal.matches_either-returns-else-root_matches
+matches_either-returns-else-root_matches t c =
     let a = c.args in
     tells_second a.schema.now a.pairs.now a.p c.requires.0
-    c.field_a-first.ensures c.field_b-second.ensures _ c.root_matches-2.result
-    c.if-root_matches.false c.root_matches.ensures c.root_matches-2.ensures
+    c.field_a-first.ensures c.field_b-second.ensures _ c.root_matches-else-root_matches.result
+    c.if-root_matches.false c.root_matches.ensures c.root_matches-else-root_matches.ensures
 
 pub root_matches-matches_either-requires : goal.root_matches-matches_either-requires
 root_matches-matches_either-requires t c =
@@ -55,7 +55,7 @@ root_matches-returns-in-8 t c =
     let a = c.args in
     tells_ref a.schema.now a.pairs.now a.p _
     (sym c.kind-kind.ensures ∙ c.in-8.is)
-    (c.byte.ensures ∙ ap (λ (i : ℕ). get_or a.pairs.now i 0) c.field_a.ensures) refl
+    (c.at.ensures ∙ ap (λ (i : ℕ). get_or a.pairs.now i 0) c.field_a.ensures) refl
 
 pub root_matches-returns-in-10 : goal.root_matches-returns-in-10
 root_matches-returns-in-10 t c = c.matches_either.ensures

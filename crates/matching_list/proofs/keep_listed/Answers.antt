@@ -5,7 +5,7 @@ use Rattle.matching_list.specs.Listing.{stays, taken_back}
 use Rattle.matching_list.proofs.keep_listed.Goals as goal
 
 pub returns-then-words-n : goal.returns-then-words-n
-returns-then-words-n c = taken_back (omega arith) refl c.zero_u32.ensures
+returns-then-words-n c = taken_back (omega arith) refl c.zero.ensures
 
 pub returns : goal.returns
 returns c = stays (omega arith) refl refl

@@ -1,12 +1,14 @@
 -- The parts of the answer, put together.
 use Prim.Native.Nat.{ℕ}
-use mathlib.Core.Path.{sym, subst}
+use mathlib.Core.Path.{sym}
 use native.Mathlib.Omega.{arith}
 use lib.ListN.{length-replicate}
 use lib.Seq.{length-take-le}
-use Rattle.tables.specs.Answers.{Decides}
+use Rattle.std.proofs.lemmas.Result.{err_from_is_err_and}
 use Rattle.schema.proofs.RowLaws.{few_rows, right_size}
-use Rattle.matching_list.proofs.MatchList.{nodes_few, too_short, is_valid, not_valid}
+use Rattle.matching_list.proofs.MatchList.{nodes_few, too_short, told}
+use Rattle.matching_list.specs.declared.Matches.{Matches}
+use Rattle.matching_list.specs.declared.TooShort.{TooShort}
 use Rattle.matching_list.proofs.list_matches.Goals as goal
 
 pub pair_table-requires : goal.pair_table-requires
@@ -40,8 +42,8 @@ overflow_cast-nodes c =
     let few = nodes_few c.requires.pass in
     omega arith
 
-pub list_pairs-listed-requires : goal.list_pairs-listed-requires
-list_pairs-listed-requires c =
+pub list_pairs-requires : goal.list_pairs-requires
+list_pairs-requires c =
     let pre = c.requires in
     let few = few_rows (right_size pre.pass.schema.rows) in
     let n = c.definitions-n.ensures.definitions.few in
@@ -50,15 +52,15 @@ list_pairs-listed-requires c =
       rw (length-take-le c.definitions-n.result c.definitions-n.new.rows (omega arith)) (omega arith),
     )
 
-pub returns-in_default : goal.returns-in_default
-returns-in_default c =
+pub returns-in_err-number : goal.returns-in_err-number
+returns-in_err-number c =
     let pre = c.requires in
     let few = few_rows (right_size pre.pass.schema.rows) in
     let n = c.definitions-n.ensures.definitions.few in
     let l = c.rows-2-1.given in
-    let right = c.pair_table.ensures in
-    too_short pre.pass right c.definitions-n.ensures.definitions (omega arith)
-    c.list_pairs-listed.ensures c.in_default.is
+    let short = err_from_is_err_and {T = Matches} {E = TooShort} c.from_residual.result c.from_residual.ensures.1 in
+    rw short.1 (too_short pre.pass c.pair_table.ensures c.definitions-n.ensures.definitions (omega arith)
+    c.list_pairs.ensures c.in_err-number.was)
 
 pub valid-requires : goal.valid-requires
 valid-requires c =
@@ -69,24 +71,12 @@ valid-requires c =
       right = c.pair_table.ensures;
     }
 
-pub returns-then-valid : goal.returns-then-valid
-returns-then-valid c =
+pub returns : goal.returns
+returns c =
     let pre = c.requires in
     let few = few_rows (right_size pre.pass.schema.rows) in
     let n = c.definitions-n.ensures.definitions.few in
     let l = c.rows-2-1.given in
     let right = c.pair_table.ensures in
-    is_valid pre.pass right c.definitions-n.ensures.definitions
-    (omega arith) c.list_pairs-listed.ensures c.in-Pairs.is
-    (subst (Decides _) c.if-valid.true (c.valid.ensures.tells _ _ pre.pass right))
-
-pub returns-else-valid : goal.returns-else-valid
-returns-else-valid c =
-    let pre = c.requires in
-    let few = few_rows (right_size pre.pass.schema.rows) in
-    let n = c.definitions-n.ensures.definitions.few in
-    let l = c.rows-2-1.given in
-    let right = c.pair_table.ensures in
-    not_valid pre.pass right c.definitions-n.ensures.definitions
-    (omega arith) c.list_pairs-listed.ensures c.in-Pairs.is
-    (subst (Decides _) c.if-valid.false (c.valid.ensures.tells _ _ pre.pass right))
+    told pre.pass right c.definitions-n.ensures.definitions
+    (omega arith) c.list_pairs.ensures c.in_ok-number.was (c.valid.ensures.tells _ _ pre.pass right)

@@ -4,5 +4,5 @@ use Rattle.matching_list.proofs.list_pairs.Goals as goal
 
 pub returns : goal.returns
 returns c =
-    kept_list c.zero_u32.ensures
+    kept_list c.zero.ensures
     c.put_rows-n.ensures c.keep_listed.ensures
