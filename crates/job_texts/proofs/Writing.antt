@@ -1,41 +1,37 @@
 -- One text put after another: every step puts its text after the one before, so that proofs add up texts.
 use mathlib.Core.Path.{◌≡◌, refl, sym, ◌∙◌, ap, ap₂}
-use mathlib.Core.Logic.{◌≢◌}
 use mathlib.Core.List.{List, [], ◌∷◌, ◌++◌, append_assoc}
 use Prim.Native.Nat.{ℕ, ◌+◌, ◌-◌, ◌*◌, ◌/◌, ◌%◌, ◌≤◌, ◌<◌}
 use native.Mathlib.Omega.{arith}
 use native.Mathlib.Nat.{zero-add, add-zero, le_trans, min-le_right}
 use native.Mathlib.Numerals.{add-one}
-use lib.ListN.{length, take, drop, get_or, set, length-append, length-take, length-drop, length-replicate}
-use lib.Seq.{sets, set_out, length-sets, take-suc, take_all, length-take-le, get_or-take, get_or-drop}
+use lib.ListN.{length, take, drop, get_or, length-append, length-take, length-drop, length-replicate}
+use lib.Seq.{sets, length-sets, take-suc}
 use Rattle.tables.specs.Outputs.{zeros, laid}
 use Rattle.tables.proofs.Stores.{sets_append, sets_zeros}
 use Rattle.tables.specs.Tables.{StringTable}
 use Rattle.strings.specs.Strings.{start_of, end_of, text_of}
-use borrow.Author.Tests.{eq-eqb, ne_eqb}
-use Rattle.job.specs.Numbers.{largest_word, decimal, word_text, words_text, hex_digit, hex_text}
+use Rattle.job.specs.Numbers.{word_text, words_text, hex_digit, hex_text}
 use Rattle.job.proofs.Decimals.{word_length}
-use Rattle.job_texts.specs.Writing.{Wrote, Kept, TextIn}
+use Rattle.job_texts.specs.Writing.{Puts, Wrote, Kept, TextIn}
+use Rattle.job_texts.specs.declared.Writer.{Writer}
 
-pub wrote_none : (out : List ℕ) (at : ℕ) → Wrote out at [] out at
-wrote_none out at = record { holds = refl; moves = sym (add-zero at) }
+pub puts_none : (w : Writer) → Puts w [] w
+puts_none w = record { wrote = record { holds = refl; moves = sym (add-zero w.at) }; same = refl }
 
-pub wrote_byte : (out : List ℕ) (at b : ℕ) → Wrote out at (b ∷ []) (set out at b) (at + 1)
-wrote_byte out at b = record { holds = refl; moves = refl }
-
-pub wrote_past : (out : List ℕ) (at b : ℕ) → length out ≤ at → Wrote out at (b ∷ []) out (at + 1)
-wrote_past out at b h = record { holds = sym (set_out out at b h); moves = refl }
-
-pub wrote_more : {out : List ℕ} {at : ℕ} {a b : List ℕ} {mid : List ℕ} {p : ℕ} {end : List ℕ} {q : ℕ}
-    → Wrote out at a mid p → Wrote mid p b end q → Wrote out at (a ++ b) end q
-wrote_more {out} {at} {a} {b} w v = record {
-  holds = v.holds ∙ ap₂ (λ l i. sets l i b) w.holds w.moves ∙ sets_append out at a b;
-  moves = v.moves ∙ let e = w.moves in let f = length-append a b in omega arith;
+pub puts_more : {w m e : Writer} {a b : List ℕ} → Puts w a m → Puts m b e → Puts w (a ++ b) e
+puts_more {w} {a = a} {b} p q = record {
+  wrote = record {
+    holds = q.wrote.holds
+        ∙ ap₂ (λ l i. sets l i b) p.wrote.holds p.wrote.moves
+        ∙ sets_append w.out.now w.at a b;
+    moves = q.wrote.moves ∙ let e = p.wrote.moves in let f = length-append a b in omega arith;
+  };
+  same = q.same ∙ p.same;
 }
 
-pub wrote_as : {out : List ℕ} {at : ℕ} {a b : List ℕ} {end : List ℕ} {q : ℕ}
-    → a ≡ b → Wrote out at a end q → Wrote out at b end q
-wrote_as {out} {at} {a} {b} {end} {q} e w = rw (← e) w
+pub puts_as : {w e : Writer} {a b : List ℕ} → a ≡ b → Puts w a e → Puts w b e
+puts_as h p = rw (← h) p
 
 pub wrote_length : {out : List ℕ} {at : ℕ} {a : List ℕ} {end : List ℕ} {q : ℕ}
     → Wrote out at a end q → length end ≡ length out
@@ -66,24 +62,12 @@ text_in {text} {out} {mid} {end} {room} {n} {r} z w k = record { fits = fits; sh
         let q = k.short (omega arith) in
         (q.0 ∙ ap zeros size, q.1)
 
--- what was written of a list of bytes or words, the first i of them
-pub record Front (text : List ℕ → List ℕ) (out : List ℕ) (at : ℕ) (l : List ℕ) (now : List ℕ) (i p : ℕ) : Type 0 where
-  pub wrote : Wrote out at (text (take i l)) now p
-  pub within : i ≤ length l
-
-pub front_more : {text : List ℕ → List ℕ} {out : List ℕ} {at : ℕ}
-    {l now : List ℕ} {i p : ℕ} {more : List ℕ} {next : List ℕ} {q : ℕ}
-    → Front text out at l now i p → i < length l → text (take i l ++ get_or l i 0 ∷ []) ≡ text (take i l) ++ more
-    → Wrote now p more next q → Front text out at l next (i + 1) q
-front_more {text} {out} {at} {l} {now} {i} f h e w = record {
-  wrote = wrote_as (sym e ∙ ap text (sym (take-suc l i 0 h) ∙ ap (λ k. take k l) (sym (add-one i))))
-      (wrote_more f.wrote w);
-  within = omega arith;
-}
-
-pub front_done : {text : List ℕ → List ℕ} {out : List ℕ} {at : ℕ} {l now : List ℕ} {i p : ℕ}
-    → Front text out at l now i p → length l ≤ i → Wrote out at (text l) now p
-front_done {text} {l = l} {i = i} f h = wrote_as (ap text (take_all i l h)) f.wrote
+-- one byte or word more of a list, of which the first i are put
+pub puts_next : (text : List ℕ → List ℕ) (l : List ℕ) (i : ℕ) {w m e : Writer} {more : List ℕ} → i < length l
+    → text (take i l ++ get_or l i 0 ∷ []) ≡ text (take i l) ++ more
+    → Puts w (text (take i l)) m → Puts m more e → Puts w (text (take (i + 1) l)) e
+puts_next text l i h f p q =
+    puts_as (sym f ∙ ap text (sym (take-suc l i 0 h) ∙ ap (λ k. take k l) (sym (add-one i)))) (puts_more p q)
 
 pub hex_append : (l : List ℕ) (b : ℕ)
     → hex_text (l ++ b ∷ []) ≡ hex_text l ++ hex_digit (b / 16) ∷ hex_digit (b % 16) ∷ []
@@ -109,40 +93,6 @@ words_length (w ∷ v ∷ l) =
     let k = words_length (v ∷ l) in
     let e = length-append (word_text w) (44 ∷ words_text (v ∷ l)) in
     omega arith
-
-pub word_largest : (w : ℕ) → w ≡ largest_word → word_text w ≡ 45 ∷ []
-word_largest w e = rw (eq-eqb w largest_word e)
-
-pub word_number : (w : ℕ) → w ≢ largest_word → word_text w ≡ decimal w
-word_number w n = rw (ne_eqb w largest_word n)
-
--- the words of a row
-module _ (table : List ℕ) (first width : ℕ) (h : first + width ≤ length table) where
-  abbrev pub row : List ℕ
-  row = take width (drop first table)
-
-  pub row_length : length row ≡ width
-  row_length = length-take-le width (drop first table) (let e = length-drop first table in omega arith)
-
-  pub row_word : (j : ℕ) → j < width → get_or row j 0 ≡ get_or table (first + j) 0
-  row_word j l = get_or-take width (drop first table) j 0 l ∙ get_or-drop first table j 0
-
-  pub row_first : 0 < width → take 1 row ≡ get_or table first 0 ∷ []
-  row_first l =
-      take-suc row 0 0 (let e = row_length in omega arith)
-      ∙ ap (λ w. w ∷ []) (row_word 0 l ∙ ap (λ k. get_or table k 0) (add-zero first))
-
-  -- one more word after a comma
-  pub row_more : {out : List ℕ} {at : ℕ} {now : List ℕ} {j p : ℕ} {mid : List ℕ} {q : ℕ} {next : List ℕ} {r : ℕ}
-      → Front words_text out at row now j p → 0 < j → j < width → Wrote now p (44 ∷ []) mid q
-      → Wrote mid q (word_text (get_or table (first + j) 0)) next r → Front words_text out at row next (j + 1) r
-  row_more {j = j} f z l w v =
-      let e = row_length in
-      let t = length-take-le j row (omega arith) in
-      front_more f (omega arith)
-      (words_append (take j row) (get_or row j 0) (omega arith)
-      ∙ ap (λ (x : ℕ). words_text (take j row) ++ 44 ∷ word_text x) (row_word j l))
-      (wrote_more w v)
 
 -- no text is longer than all bytes
 pub text_length : (T : StringTable) (k : ℕ) → length (text_of T k) ≤ length T.bytes

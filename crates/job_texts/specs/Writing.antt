@@ -9,10 +9,16 @@ use Rattle.schema.specs.Rows.{rows_of}
 use Rattle.schema.specs.RowRule.{max_rows}
 use Rattle.instance.specs.Nodes.{nodes_of}
 use Rattle.instance.specs.NodeRule.{max_nodes}
+use Rattle.job_texts.specs.declared.Writer.{Writer}
 
 pub record Wrote (before : List ℕ) (at : ℕ) (text : List ℕ) (after : List ℕ) (next : ℕ) : Type 0 where
   pub holds : after ≡ sets before at text
   pub moves : next ≡ at + length text
+
+-- a writer puts a text into its output, which stays the same one
+pub record Puts (before : Writer) (text : List ℕ) (after : Writer) : Type 0 where
+  pub wrote : Wrote before.out.now before.at text after.out.now after.at
+  pub same : after.out.ghost_name ≡ before.out.ghost_name
 
 -- a bound on positions, past which no job's text reaches
 abbrev pub far : ℕ

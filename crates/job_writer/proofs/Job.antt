@@ -36,7 +36,8 @@ module _ (J : Tables) (room : ℕ) where
       (Tries Nodes (TableFault 5 max_nodes J.instance) (Tries Room (TextFault (job_text J) room) Passes)))
 
   -- the tables are refused
-  pub tables_refused : {out : List ℕ} {r : Refusal} → out ≡ zeros room → CheckJob J (Err r) → WriteJob J room out (Err r)
+  pub tables_refused : {out : List ℕ} {r : Refusal} → out ≡ zeros room → CheckJob J (Err r)
+      → WriteJob J room out (Err r)
   tables_refused z c = record {
     refusal = tries_map (tries_map (tries_map (λ e. absurd (false≢true (ap is_ok e))))) c;
     size = refl;

@@ -35,6 +35,7 @@ text_given (Err refusal) text = []
 -- of FORMAT, "Codes and places"
 pub record WriteJob (J : Tables) (room : ℕ) (out : List ℕ) (r : Result ℕ Refusal) : Type 0 where
   pub refusal : Tries Strings (StringFault J.strings) (Tries Rows (TableFault 3 max_rows J.schema)
-      (Tries Nodes (TableFault 5 max_nodes J.instance) (Tries Room (TextFault (job_text J) room) Passes))) (verdict_of r)
+      (Tries Nodes (TableFault 5 max_nodes J.instance) (Tries Room (TextFault (job_text J) room) Passes)))
+      (verdict_of r)
   pub size : size_of r ≡ length (text_given r (job_text J))
   pub holds : out ≡ laid room (text_given r (job_text J))

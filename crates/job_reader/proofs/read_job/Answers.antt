@@ -30,5 +30,5 @@ overflow_cast-result-4 c =
 pub returns-clause-outputs : goal.returns-clause-outputs
 returns-clause-outputs c =
     let held : Ok c.in_ok-lengths.lengths ≡ c.read_tables-held.result = search rules in
-    tables_given (read_job c.args.file.now) c.read_tables-held.ensures.outputs (held ∙ c.read_tables-held.ensures.answer)
-    c.if-not-fit.ensures
+    tables_given (read_job c.args.file.now) c.read_tables-held.ensures.outputs
+    (held ∙ c.read_tables-held.ensures.answer) c.if-not-fit.ensures

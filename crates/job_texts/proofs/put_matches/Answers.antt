@@ -1,15 +1,11 @@
 -- The lines, one after the other.
-use native.Mathlib.Omega.{arith}
-use Rattle.job_texts.proofs.Lines.{wrote_matches}
+use borrow.Author.Rules.{rules}
+use Rattle.job_texts.proofs.Lines.{puts_matches}
+use Rattle.job_texts.proofs.Writing.{puts_as}
 use Rattle.job_texts.proofs.put_matches.Goals as goal
 
-pub returns : goal.returns
-returns c =
-    let m = c.put_rows.ensures.near in
-    let n = c.put_count-q.ensures.near in
-    let k = c.put_valid-p.ensures.near in record {
-      wrote = wrote_matches c.args.valid
-          c.args.list.now c.put_valid-p.ensures.wrote
-          c.put_count-q.ensures.wrote c.put_rows.ensures.wrote;
-      near = omega arith;
-    }
+pub returns-clause-wrote : goal.returns-clause-wrote
+returns-clause-wrote c =
+    let p = puts_matches c.args.valid c.args.list.now
+    (puts_as c.verdict_line.ensures c.text.ensures) c.count.ensures.puts c.rows.ensures.puts in
+    record { holds = search (rules, p.wrote.holds, p.same); moves = p.wrote.moves }

@@ -1,46 +1,48 @@
 -- Key, code, comma, place, line feed.
+use borrow.Author.Rules.{rules}
 use native.Mathlib.Omega.{arith}
 use Rattle.job.proofs.Decimals.{decimal_length}
-use Rattle.job_texts.proofs.Lines.{wrote_refusal}
+use Rattle.job_texts.proofs.Lines.{puts_refusal}
 use Rattle.job_texts.proofs.put_refusal.Goals as goal
 
-pub put-s-requires : goal.put-s-requires
-put-s-requires c =
+pub byte-requires : goal.byte-requires
+byte-requires c =
     let d = decimal_length c.args.code in
-    let m0 = c.put_number-q.ensures.moves in
-    let m1 = c.put_text-p.ensures.moves in
+    let m0 = c.number.ensures.wrote.moves in
+    let m1 = c.text.ensures.wrote.moves in
     omega arith
 
-pub put_number-t-requires : goal.put_number-t-requires
-put_number-t-requires c =
+pub number-requires-2 : goal.number-requires-2
+number-requires-2 c =
     let d = decimal_length c.args.code in
-    let m0 = c.put-s.ensures.moves in
-    let m1 = c.put_number-q.ensures.moves in
-    let m2 = c.put_text-p.ensures.moves in
+    let m0 = c.byte.ensures.wrote.moves in
+    let m1 = c.number.ensures.wrote.moves in
+    let m2 = c.text.ensures.wrote.moves in
     omega arith
 
-pub put-requires : goal.put-requires
-put-requires c =
+pub byte-requires-2 : goal.byte-requires-2
+byte-requires-2 c =
     let d = decimal_length c.args.code in
     let e = decimal_length c.args.place in
-    let m0 = c.put_number-t.ensures.moves in
-    let m1 = c.put-s.ensures.moves in
-    let m2 = c.put_number-q.ensures.moves in
-    let m3 = c.put_text-p.ensures.moves in
+    let m0 = c.number-2.ensures.wrote.moves in
+    let m1 = c.byte.ensures.wrote.moves in
+    let m2 = c.number.ensures.wrote.moves in
+    let m3 = c.text.ensures.wrote.moves in
     omega arith
 
-pub returns : goal.returns
-returns c =
-    let a = c.args in
-    let d = decimal_length a.code in
-    let e = decimal_length a.place in
-    let m0 = c.put.ensures.moves in
-    let m1 = c.put_number-t.ensures.moves in
-    let m2 = c.put-s.ensures.moves in
-    let m3 = c.put_number-q.ensures.moves in
-    let m4 = c.put_text-p.ensures.moves in record {
-      wrote = wrote_refusal a.code a.place c.put_text-p.ensures
-          c.put_number-q.ensures c.put-s.ensures
-          c.put_number-t.ensures c.put.ensures;
-      near = omega arith;
-    }
+pub returns-clause-wrote : goal.returns-clause-wrote
+returns-clause-wrote c =
+    let p = puts_refusal c.args.code c.args.place c.text.ensures c.number.ensures c.byte.ensures
+    c.number-2.ensures c.byte-2.ensures in
+    record { holds = search (rules, p.wrote.holds, p.same); moves = p.wrote.moves }
+
+pub returns-clause-near : goal.returns-clause-near
+returns-clause-near c =
+    let d = decimal_length c.args.code in
+    let e = decimal_length c.args.place in
+    let m0 = c.byte-2.ensures.wrote.moves in
+    let m1 = c.number-2.ensures.wrote.moves in
+    let m2 = c.byte.ensures.wrote.moves in
+    let m3 = c.number.ensures.wrote.moves in
+    let m4 = c.text.ensures.wrote.moves in
+    omega arith
