@@ -1,9 +1,9 @@
 -- One definition against the attributes and items of an element.
 use Prim.Native.Nat.{ℕ, ◌+◌, ◌*◌, ◌≤◌, ◌<◌}
-use mathlib.Core.Path.{◌≡◌, refl, sym, ◌∙◌}
+use mathlib.Core.Path.{◌≡◌, sym, ◌∙◌}
 use mathlib.Core.Bool.{Bool, true, false, true≢false, false≢true}
 use mathlib.Core.List.{List}
-use mathlib.Core.Logic.{◌↔◌, ◌⊎◌, inr, ⊎_elim, ⊎_map}
+use mathlib.Core.Logic.{◌⊎◌, inr, ⊎_elim, ⊎_map}
 use native.Mathlib.Omega.{arith}
 use lib.ListN.{length, get_or}
 use lib.Dec.{ltb}
@@ -46,9 +46,6 @@ word_tells n w R {v} {r} is e f = go r f
 pub second_tells : (A B : Type 0) (w r : Bool) → ¬ A → w ≡ true → Decides B r → Decides (A ⊎ ((w ≡ true) × B)) r
 second_tells A B w true f e x = inr (e, x)
 second_tells A B w false f e x = ⊎_elim f (λ y. x y.1)
-
-pub neither_tells : (A B : Type 0) (w : Bool) → ¬ A → w ≡ false → ¬ (A ⊎ ((w ≡ true) × B))
-neither_tells A B w f e = ⊎_elim f (λ y. true≢false (sym y.0 ∙ e))
 
 -- the pattern of a definition is a row of the table
 pub content_row : {strings : ℕ} {s : List ℕ} → RowsRight strings s
@@ -108,33 +105,24 @@ module _ {J : Tables} {alone nothing blank pairs items : List ℕ} {e attributes
       record { setting = setting; asked = asked; covered = covered; few = omega arith; room = omega arith }
 
   module _ (d : ℕ) where
-    abbrev Told : ℕ → Type 0
-    Told v = (v ≡ 1) ↔ IsPair J e d
+    pub no_name : in_class s (node.a_of t e) (node.b_of t e) (a_of s d) ≡ false → ¬ IsPair J e d
+    no_name f x = true≢false (sym x.1.named ∙ f)
 
-    pub no_name : in_class s (node.a_of t e) (node.b_of t e) (a_of s d) ≡ false → Told 0
-    no_name f = (λ z. absurd (omega arith), λ x. absurd (true≢false (sym x.1.named ∙ f)))
-
-    pub no_content : ¬ Fits setting (length items) a k weak (b_of s d) → Told 0
-    no_content f = (
-      λ z. absurd (omega arith),
-      λ x. absurd (f (⊎_map (λ y. (omega arith, y)) (λ y. (y.0, (omega arith, y.1)))
-          ((shown.content d x.1.defined).0 x.1.content))),
+    -- with the right name the content tells
+    pub content_told : element.is_element t e ≡ true → is_definition s d ≡ true
+        → in_class s (node.a_of t e) (node.b_of t e) (a_of s d) ≡ true → (r : Bool)
+        → Decides (Fits setting (length items) a k weak (b_of s d)) r → Decides (IsPair J e d) r
+    content_told i f h true c = (
+      i,
+      record {
+        defined = f;
+        ordered = shown.ordered;
+        named = h;
+        content = (shown.content d f).1 (⊎_map (λ x. x.1) (λ x. (x.0, x.1.1)) c);
+      },
     )
-
-    pub a_pair : element.is_element t e ≡ true → is_definition s d ≡ true → in_class s (node.a_of t e)
-        (node.b_of t e) (a_of s d) ≡ true → Fits setting (length items) a k weak (b_of s d) → Told 1
-    a_pair i f h c = (
-      λ z. (
-        i,
-        record {
-          defined = f;
-          ordered = shown.ordered;
-          named = h;
-          content = (shown.content d f).1 (⊎_map (λ x. x.1) (λ x. (x.0, x.1.1)) c);
-        },
-      ),
-      λ x. refl,
-    )
+    content_told i f h false n = λ x. n (⊎_map (λ y. (omega arith, y)) (λ y. (y.0, (omega arith, y.1)))
+        ((shown.content d x.1.defined).0 x.1.content))
 
 -- the same relation without items, with the words as they were left
 pub relatable_none : {s marks named taken single work after : List ℕ} {m a k p : ℕ}

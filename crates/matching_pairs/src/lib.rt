@@ -1,7 +1,7 @@
 // The pairs of an element and a definition that it matches.
 #![tactic(auto)]
 
-ghost use Rattle.std.specs.Prelude.{◌≡◌, true, cond, ◌↔◌, ◌+◌, ◌≤◌, ◌<◌, eqb, length, get_or, take};
+ghost use Rattle.std.specs.Prelude.{◌≡◌, true, cond, ◌+◌, ◌≤◌, ◌<◌, eqb, length, get_or, take};
 ghost use Rattle.tables.specs.Answers.{Decides};
 ghost use Rattle.tables.specs.Tables.{StringTable, string_table, tables_of};
 ghost use Rattle.instance.specs.Width.{max_width};
@@ -54,16 +54,11 @@ fn content_fits(
     ensures { (S : Setting schema.now) → Asked S a k → Covered S marks.now named.now taken.now
         single.now p → Decides (Fits S n a k weak p) result }
 {
-    if all_match(schema, marks, named, taken, single, n, a, k, p, work) {
-        return true;
-    }
-    if weak {
-        return all_match(schema, marks, named, taken, single, n, a, 0, p, work);
-    }
-    false
+    all_match(schema, marks, named, taken, single, n, a, k, p, work)
+        || weak && all_match(schema, marks, named, taken, single, n, a, 0, p, work)
 }
 
-// The entry of element e and definition d. The words of its pattern are wanted only where its class has the name of e.
+// Whether element e and definition d are a pair. The words of its pattern are wanted only where its class has the name of e.
 fn pair_at(
     schema: &[u32],
     instance: &[u32],
@@ -84,19 +79,19 @@ fn pair_at(
     taken: &mut [u64],
     single: &mut [u64],
     work: &mut [u64],
-) -> u8
+) -> bool
     requires { Space marks.old named.old taken.old single.old work.old
         × PairAsked schema.now instance.now alone.now nothing.now blank.now pairs.now items.now e attributes texts a k weak d }
     ensures { (T : StringTable) → Given (tables_of T schema.now instance.now) alone.now nothing.now
         blank.now pairs.now items.now e attributes texts → Shown
-        (tables_of T schema.now instance.now) items.now e attributes texts a k weak → (result ≡ 1) ↔ IsPair
-        (tables_of T schema.now instance.now) e d }
+        (tables_of T schema.now instance.now) items.now e attributes texts a k weak → Decides (IsPair
+        (tables_of T schema.now instance.now) e d) result }
 {
     let class = schema::field_a(schema, d);
     let namespace = instance::field_a(instance, e);
     let local = instance::field_b(instance, e);
     if !schema_classes::in_class(schema, class, namespace, local) {
-        return 0;
+        return false;
     }
     let p = schema::field_b(schema, d);
     matching_marks::mark(
@@ -104,10 +99,7 @@ fn pair_at(
         named, taken, single,
     );
     let n = items.len() as u32;
-    if content_fits(schema, marks, named, taken, single, n, a, k, weak, p, work) {
-        return 1;
-    }
-    0
+    content_fits(schema, marks, named, taken, single, n, a, k, weak, p, work)
 }
 
 // The entries of element e, from the attributes a and the items k that stand for all of it.
@@ -139,15 +131,13 @@ fn pair_row(
         blank.now pairs.old items.now e attributes texts a k weak → RowRight
         (tables_of T schema.now instance.now) pairs.old pairs.new e }
 {
-    let mut i: usize = 0;
-    while i < definitions.len() {
-        let d = tables::word(definitions, i);
+    for i in 0..definitions.len() {
+        let d = definitions[i];
         let v = pair_at(
             schema, instance, alone, nothing, blank, e, attributes, items, texts, a, k, weak, d,
             pairs, marks, named, taken, single, work,
         );
-        pairs[e as usize * schema::MAX_ROWS + d as usize] = v;
-        i += 1;
+        pairs[e as usize * schema::MAX_ROWS + d as usize] = u8::from(v);
     }
 }
 
@@ -156,15 +146,10 @@ fn solid(blank: &[u8], items: &[u32], texts: u64) -> u64
     requires { length items.now ≤ max_width }
     ensures { Collects (is_solid blank.now items.now texts) (length items.now) result }
 {
-    let mut set: u64 = 0;
-    let mut k: u32 = 0;
-    while (k as usize) < items.len() {
-        let item = tables::word(items, k as usize);
-        let space = sets::has(texts, k) & (tables::byte(blank, item as usize) == 1);
-        set = sets::add_if(set, k, !space);
-        k += 1;
-    }
-    set
+    sets::collect(items.len() as u32, |k| {
+        let item = tables::at(items, k as usize);
+        !(sets::has(texts, k) && tables::at(blank, item as usize) == 1)
+    })
 }
 
 // The first n items.
@@ -179,15 +164,12 @@ fn first_items(items: &[u32], n: u32) -> &[u32]
 fn only_string(items: &[u32], n: u32) -> u32
     ensures { result ≡ cond (eqb n 0) 0 (get_or items.now 0 0) }
 {
-    if n == 0 {
-        return 0;
-    }
-    tables::word(items, 0)
+    if n == 0 { 0 } else { tables::at(items, 0) }
 }
 
 // What stands for a content: the first `count` items, of which `texts` are strings and k are asked for; weak says that
 // they are whitespace.
-#[derive(Clone, Copy)]
+#[derive(Clone, Copy, Debug, PartialEq, Eq)]
 struct Content {
     count: u32,
     texts: u64,
@@ -205,19 +187,19 @@ fn content_of(blank: &[u8], items: &mut [u32], n: u32, texts: u64, elements: u64
         let k = solid(blank, first_items(items, n), texts);
         return Content {
             count: n,
-            texts: texts,
-            k: k,
+            texts,
+            k,
             weak: false,
         };
     }
     let v = only_string(items, n);
     items[0] = v;
-    let weak = tables::byte(blank, v as usize) == 1;
+    let weak = tables::at(blank, v as usize) == 1;
     Content {
         count: 1,
         texts: 1,
         k: 1,
-        weak: weak,
+        weak,
     }
 }
 
@@ -300,25 +282,24 @@ fn pair_node(
         blank.now pairs.old (e + 1) → Filling (tables_of T schema.now instance.now) alone.now
         nothing.now blank.now pairs.new e }
 {
-    if instance::kind(instance, e) != instance::ELEMENT {
-        return;
+    if instance::kind(instance, e) == instance::ELEMENT {
+        pair_element(
+            schema,
+            instance,
+            alone,
+            nothing,
+            blank,
+            definitions,
+            e,
+            items,
+            pairs,
+            marks,
+            named,
+            taken,
+            single,
+            work,
+        );
     }
-    pair_element(
-        schema,
-        instance,
-        alone,
-        nothing,
-        blank,
-        definitions,
-        e,
-        items,
-        pairs,
-        marks,
-        named,
-        taken,
-        single,
-        work,
-    );
 }
 
 // The entries of all instance rows, from the last to the first: the children of an element stand at later rows.
@@ -345,9 +326,8 @@ fn pair_all(
         (tables_of T schema.now instance.now) alone.now nothing.now blank.now
         pairs.new 0 }
 {
-    let mut r = instance.len() / 5;
-    while r > 0 {
-        r -= 1;
+    let nodes = instance.len() / 5;
+    for r in (0..nodes as u32).rev() {
         pair_node(
             schema,
             instance,
@@ -355,7 +335,7 @@ fn pair_all(
             nothing,
             blank,
             definitions,
-            r as u32,
+            r,
             items,
             pairs,
             marks,
@@ -374,7 +354,7 @@ pub fn pair_table(bytes: &[u8], ends: &[u32], schema: &[u32], instance: &[u32], 
     requires { Pairable (tables_of (string_table bytes.now ends.now) schema.now instance.now) pairs.old }
     ensures { PairsRight (tables_of (string_table bytes.now ends.now) schema.now instance.now) pairs.new }
 {
-    tables::zero_u8(pairs);
+    tables::zero(pairs);
     let mut alone = [0u8; 262144];
     let mut nothing = [0u8; schema::MAX_ROWS];
     let mut blank = [0u8; 512];

@@ -26,4 +26,4 @@ pub returns : goal.returns
 returns c =
     let room = c.requires.1 in
     simple_stands c.args.blank.now c.args.items.now (omega arith) c.if-elements-ne0.false
-    c.only_string-v.ensures (ap (λ (x : ℕ). eqb x 1) c.byte-weak.ensures)
+    c.only_string-v.ensures (ap (λ (x : ℕ). eqb x 1) c.at-weak.ensures)

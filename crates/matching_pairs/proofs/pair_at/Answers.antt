@@ -2,7 +2,7 @@
 -- related.
 use mathlib.Core.Path.{refl, sym, ◌∙◌}
 use native.Mathlib.Omega.{arith}
-use Rattle.matching_pairs.proofs.Fitting.{setting, asked, no_name, no_content, a_pair, markable, pair_relatable}
+use Rattle.matching_pairs.proofs.Fitting.{setting, asked, no_name, content_told, markable, pair_relatable}
 use Rattle.matching_pairs.proofs.pair_at.Goals as goal
 
 pub returns-then-not-in_class : goal.returns-then-not-in_class
@@ -30,26 +30,15 @@ content_fits-requires c =
     pair_relatable pre.1 c.field_b-p.ensures
     c.mark.ensures refl (omega arith)
 
-pub returns-then-content_fits : goal.returns-then-content_fits
-returns-then-content_fits c =
-    λ T g shown.
-    let q = c.requires.1 in
-    let d = c.args.d in
-    let pattern = c.field_b-p.ensures in
-    let marked = c.mark.ensures.marking T g in
-    let fits = c.content_fits.ensures (setting g shown) (asked g shown) marked.pattern in
-    a_pair g shown d q.element q.defined (rw (
-      c.field_a-class.ensures,
-      c.field_a-namespace.ensures,
-      c.field_b-local.ensures,
-    ) at (sym c.in_class.ensures ∙ c.if-not-in_class.false))
-    (rw (c.if-content_fits.true, pattern) at fits)
-
 pub returns : goal.returns
 returns c =
     λ T g shown.
-    let d = c.args.d in
+    let q = c.requires.1 in
     let pattern = c.field_b-p.ensures in
     let marked = c.mark.ensures.marking T g in
     let fits = c.content_fits.ensures (setting g shown) (asked g shown) marked.pattern in
-    no_content g shown d (rw (c.if-content_fits.false, pattern) at fits)
+    content_told g shown c.args.d q.element q.defined (rw (
+      c.field_a-class.ensures,
+      c.field_a-namespace.ensures,
+      c.field_b-local.ensures,
+    ) at (sym c.in_class.ensures ∙ c.if-not-in_class.false)) c.content_fits.result (rw pattern at fits)

@@ -65,7 +65,7 @@ pair_all-requires c =
       record {
         strings = _;
         filling = filling_start (length c.args.pairs.now) pass
-            c.fill.ensures c.zero_u8.ensures;
+            c.fill.ensures c.zero.ensures;
         room = omega arith;
         room_items = omega arith;
       },
@@ -78,4 +78,4 @@ shape_of-pairs c = c.pairs-2-1.given ∙ c.pairs-1.given
 pub returns : goal.returns
 returns c =
     (c.pair_all.ensures _ (filling_start (length c.args.pairs.now)
-    c.requires.pass c.fill.ensures c.zero_u8.ensures)).from
+    c.requires.pass c.fill.ensures c.zero.ensures)).from
