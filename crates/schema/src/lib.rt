@@ -108,7 +108,7 @@ pub fn field_b(schema: &[u32], row: u32) -> u32
 }
 
 // The first fault of code 2 that is one of the whole table, at row 0: no row, more than 512, or words that are no whole
-// rows. Ok exactly when there is none.
+// rows. `Ok` exactly when there is none.
 pub fn check_size(schema: &[u32]) -> Result<(), u32>
     ensures { Finds (SizeFault schema.now) result }
 {

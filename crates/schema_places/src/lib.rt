@@ -226,7 +226,7 @@ fn first_misplaced(schema: &[u32]) -> Result<(), u32>
 }
 
 // Code 3, of any table: a wrong size is a fault at row 0; in a table of the right size the first empty or notAllowed
-// that is out of place is one. Ok exactly when there is neither.
+// that is out of place is one. `Ok` exactly when there is neither.
 pub fn check_places(schema: &[u32]) -> Result<(), u32>
     ensures { Finds (SizedFault schema.now (PlaceFault schema.now)) result }
 {
@@ -294,7 +294,7 @@ fn first_name(schema: &[u32]) -> Result<(), u32>
 }
 
 // Code 4, of any table: a wrong size is a fault at row 0; in a table of the right size the first anyName or nsName
-// where an except has no place for it is one. Ok exactly when there is neither.
+// where an except has no place for it is one. `Ok` exactly when there is neither.
 pub fn check_names(schema: &[u32]) -> Result<(), u32>
     ensures { Finds (SizedFault schema.now (NameFault schema.now)) result }
 {
@@ -303,7 +303,7 @@ pub fn check_names(schema: &[u32]) -> Result<(), u32>
 }
 
 // Code 5, of any table: a wrong size is a fault at row 0; in a table of the right size the first row on a prohibited
-// path is one. Ok exactly when there is neither.
+// path is one. `Ok` exactly when there is neither.
 pub fn check_paths(schema: &[u32]) -> Result<(), u32>
     ensures { Finds (SizedFault schema.now (PathFault schema.now)) result }
 {

@@ -1,7 +1,8 @@
 -- Codes 2 to 8 in their order.
 use Rattle.std.specs.Prelude.{ℕ, List, Result}
 use Rattle.tables.specs.Codes.{Tries, Passes}
-use Rattle.tables.specs.declared.refusals.Code.TheVariants.{Rows, Places, Names, Paths, Content, Attributes, Interleaves}
+use Rattle.tables.specs.declared.refusals.Code.TheVariants.{Rows, Places, Names, Paths}
+use Rattle.tables.specs.declared.refusals.Code.TheVariants.{Content, Attributes, Interleaves}
 use Rattle.tables.specs.declared.refusals.Refusal.{Refusal}
 use Rattle.schema.specs.RowRule.{RowFault, RowsRight}
 use Rattle.schema_places.specs.Places.{PlaceFault}

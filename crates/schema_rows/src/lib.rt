@@ -66,7 +66,7 @@ fn first_wrong_row(strings: usize, schema: &[u32]) -> Result<(), u32>
     scan_rows(strings, schema, &counts)
 }
 
-// Code 2: Ok exactly when the rows keep their rule beside so many strings, and otherwise the smallest faulty row.
+// Code 2: `Ok` exactly when the rows keep their rule beside so many strings, and otherwise the smallest faulty row.
 pub fn check_rows(strings: usize, schema: &[u32]) -> Result<(), u32>
     ensures { Finds (RowFault strings schema.now) result }
 {

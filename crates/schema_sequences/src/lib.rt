@@ -147,7 +147,7 @@ fn first_clash(schema: &[u32]) -> Result<(), u32>
 }
 
 // Code 6, of any table: a wrong size is a fault at row 0; in a table of the right size the first row below no list
-// whose operands have content types that do not go together is one. Ok exactly when there is neither.
+// whose operands have content types that do not go together is one. `Ok` exactly when there is neither.
 pub fn check_content(schema: &[u32]) -> Result<(), u32>
     ensures { Finds (SizedFault schema.now (SequenceFault schema.now)) result }
 {

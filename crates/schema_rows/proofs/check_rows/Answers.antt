@@ -1,15 +1,9 @@
 -- A wrong size comes first; with the right size only rows can be wrong.
-use Rattle.tables.proofs.Checks.{found_none, found_first, finds_same}
-use Rattle.schema.specs.RowRule.{bad_size, bad_row}
+use Rattle.tables.proofs.Checks.{found_none, finds_same}
+use Rattle.schema.specs.RowRule.{bad_row}
 use Rattle.schema.proofs.RowLaws.{few_rows}
-use Rattle.schema.proofs.Sizes.{size_first}
 use Rattle.schema_rows.proofs.Tests.{only_rows}
 use Rattle.schema_rows.proofs.check_rows.Goals as goal
-
-pub returns-in_err-check_size : goal.returns-in_err-check_size
-returns-in_err-check_size c =
-    found_first _ c.from_residual.result c.check_size.ensures c.in_err-check_size.was c.from_residual.ensures.1
-    (λ f clear. size_first (λ r. bad_size) f)
 
 pub first_wrong_row-requires : goal.first_wrong_row-requires
 first_wrong_row-requires c = few_rows (found_none _ c.check_size.ensures c.in_ok-check_size.was)

@@ -10,9 +10,6 @@ bounds-types-child c =
     let pre = c.requires in
     omega (arith, c.if-child-p.true, pre.2, pre.1.size, few_rows pre.0)
 
-pub returns-then-child-p : goal.returns-then-child-p
-returns-then-child-p c = c.requires.1.known c.args.child c.if-child-p.true
-
 pub returns-else-child-p : goal.returns-else-child-p
 returns-else-child-p c =
     no_row_type c.args.schema.now c.args.child c.requires.0

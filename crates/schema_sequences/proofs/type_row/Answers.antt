@@ -2,19 +2,8 @@
 use native.Mathlib.Omega.{arith}
 use Rattle.schema_sequences.proofs.TypeTables.{types_more}
 use Rattle.schema_sequences.proofs.Types.{row_judged}
-use Rattle.schema.proofs.Children.{child_a_row, child_b_row}
 use Rattle.schema.proofs.RowLaws.{few_rows}
 use Rattle.schema_sequences.proofs.type_row.Goals as goal
-
-pub child_type-c-requires : goal.child_type-c-requires
-child_type-c-requires c =
-    let pre = c.requires in
-    (pre.0, pre.1, pre.2, rw c.child_a.ensures (child_a_row c.args.schema.now c.args.r))
-
-pub child_type-d-requires : goal.child_type-d-requires
-child_type-d-requires c =
-    let pre = c.requires in
-    (pre.0, pre.1, pre.2, rw c.child_b.ensures (child_b_row c.args.schema.now c.args.r))
 
 pub bounds-types-r : goal.bounds-types-r
 bounds-types-r c =
