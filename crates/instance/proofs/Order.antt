@@ -82,7 +82,8 @@ module _ {t last : List ℕ} {r : ℕ} (c : LastChildren t last r) where
   noted {p} {k} i j child = stored (dec_lt p (length last))
     where
       go : p < length last → (e : ℕ) → e < max_nodes → Dec (e ≡ p) → LastChild t e (r + 1) (get_or (set last p k) e 0)
-      go h e l (yes z) = rw (z, get_or-set_same last p k 0 h) (last_new r (rw (← i, ← j, eq-eqb p p refl) child) (sym j))
+      go h e l (yes z) = rw (z, get_or-set_same last p k 0 h)
+          (last_new r (rw (← i, ← j, eq-eqb p p refl) child) (sym j))
       go h e l (no f) =
           rw (get_or-set_other last p e k 0 f)
           (last_kept (rw (ne_eqb (parent_of t r) e (λ z. f (sym z ∙ sym i)))) (c.kinds e l))

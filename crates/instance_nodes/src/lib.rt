@@ -72,6 +72,7 @@ fn parent_open(instance: &[u32], r: u32) -> bool
 {
     let p = instance::parent(instance, r);
     let mut e = nearest_element(instance, r - 1);
+    // A walk up, not a count: how many elements it passes is not known before.
     while p < e {
         e = instance::parent(instance, e);
     }

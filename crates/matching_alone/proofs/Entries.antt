@@ -1,7 +1,7 @@
 -- The entries of a row from those of the rows before it.
 use Prim.Native.Nat.{ℕ, ◌<◌}
 use mathlib.Core.Path.{◌≡◌, refl, sym, ◌∙◌, ap, ap₂}
-use mathlib.Core.Bool.{Bool, true, false}
+use mathlib.Core.Bool.{Bool, true, false, true≢false}
 use mathlib.Core.List.{List, [], ◌∷◌, nil≢cons, cons≢nil}
 use mathlib.Core.Logic.Iff
 use mathlib.Core.Logic.{◌⊎◌, inl, ⊎_map, ⊎_elim, ◌↔◌, ◌≢◌}
@@ -56,6 +56,11 @@ not_one e = omega arith
 pub byte_told : {A : Type 0} (b : Bool) → Decides A b → (mark b ≡ 1) ↔ A
 byte_told true a = (λ e. a, λ x. refl)
 byte_told false n = (λ e. absurd (not_one e), λ a. absurd (n a))
+
+-- a test that is true exactly where the answer is yes
+pub test_told : {test : Bool} (b : Bool) → b ≡ test → Decides (test ≡ true) b
+test_told true e = sym e
+test_told false e = λ z. absurd (true≢false (sym z ∙ sym e))
 
 -- what the table says of a row, where it has been read
 pub marked_told : (nothing : List ℕ) {p q : ℕ} {b : Bool} → b ≡ marked nothing p → p ≡ q

@@ -68,3 +68,11 @@ rows_more {T} {s} {alone} {after} {nothing} {p} {v} h i c a m d =
 -- the first k strings
 abbrev pub BlankTo : StringTable → List ℕ → ℕ → Type 0
 BlankTo T blank n = (k : ℕ) → k < n → (get_or blank k 0 ≡ 1) ↔ (whitespace (text_of T k) ≡ true)
+
+pub blank_more : (T : StringTable) (blank : List ℕ) (k v : ℕ) → k < length blank
+    → (v ≡ 1) ↔ (whitespace (text_of T k) ≡ true) → BlankTo T blank k → BlankTo T (set blank k v) (k + 1)
+blank_more T blank k v i d b =
+    below_more (λ (j : ℕ). (get_or (set blank k v) j 0 ≡ 1) ↔ (whitespace (text_of T j) ≡ true)) k
+    (λ j m. subst (λ (x : ℕ). (x ≡ 1) ↔ (whitespace (text_of T j) ≡ true))
+    (sym (get_or-set_other blank k j v 0 (λ e. omega arith))) (b j m))
+    (subst (λ (x : ℕ). (x ≡ 1) ↔ (whitespace (text_of T k) ≡ true)) (sym (get_or-set_same blank k v 0 i)) d)

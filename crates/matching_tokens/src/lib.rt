@@ -267,6 +267,7 @@ pub fn tokens_match(
     let mut at = datatypes::skip_space(text, 0);
     let mut enter = true;
     let mut done = is_marked(nothing, p);
+    // A walk from token to token, not a count: where the next one begins is found on the way.
     while at < text.len() {
         let end = datatypes::token_end(text, at);
         let token = tables::part(text, at, end);
