@@ -19,7 +19,7 @@ use Rattle.instance.specs.Nodes.{element, attribute, text, no_parent, kind_of}
 use Rattle.instance.specs.Nodes.{parent_of, a_of, b_of, c_of, is_child, is_attribute}
 use Rattle.instance.specs.NodeRule.{max_nodes, fields_right, WrongNode, bad_fields, bad_parent}
 use Rattle.instance.specs.NodeRule.{late_attribute, same_attribute, text_after_text}
-use Rattle.instance.specs.Walk.{LastChild, no_child, child_at, LastChildren, Twin, RepeatsName, repeats, Placed}
+use Rattle.instance.specs.Walk.{LastChild, no_child, child_at, LastChildren, RepeatsName, repeats, Placed}
 use Rattle.instance.proofs.Ancestors.{root_told, parent_before}
 
 -- a pair of tests that holds
@@ -96,15 +96,6 @@ module _ {t last : List ℕ} {r : ℕ} (c : LastChildren t last r) where
       stored (no f) =
           let past : length last ≤ p = omega arith in
           rw (set_past last p k past) (noted_outside i past)
-
-pub no_repeats : {t : List ℕ} {p r q : ℕ} → r ≤ q → ((x : ℕ) → x < q → p < x → ¬ Twin t p x r) → ¬ RepeatsName t p r
-no_repeats h f (repeats x m l twin) = f x (omega arith) m twin
-
--- the test of the fields that the code has read
-pub fields_tested : (strings : ℕ) (t : List ℕ) (r : ℕ) {k a b c : ℕ} {answer : Bool}
-    → k ≡ kind_of t r → a ≡ a_of t r → b ≡ b_of t r → c ≡ c_of t r → answer ≡ fields_right strings k a b c
-    → fields_right strings (kind_of t r) (a_of t r) (b_of t r) (c_of t r) ≡ answer
-fields_tested strings t r e f g h i = rw (← e, ← f, ← g, ← h) (sym i)
 
 -- a row that is not the element at the root has a parent before it
 parent_low : {t last : List ℕ} {r : ℕ} → Placed t last r → kind_of t r ≢ element → parent_of t r < r
