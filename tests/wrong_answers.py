@@ -19,25 +19,21 @@ sys.dont_write_bytecode = True
 sys.path.insert(0, os.path.join(os.path.dirname(os.path.abspath(__file__)), "support"))
 from tally import end, hold, read
 from edits import answers
+from sources import functions
 from tries import tried
 
-# A function with its attributes, at which the prover places what it says of it.
-FUNCTION = re.compile(r"^(?:#\[[^\n]*\n)*(?:pub )?(?:extern \"C\" )?fn (\w+).*?^\}$", re.M | re.S)
 # A fact fails for want of a name where a proof cites what the edit took away: that says nothing of the contract.
 UNNAMED = re.compile(r"was not admitted|is not in scope|has no (field )?`")
-
-
-def functions(crate, file):
-    """The functions of a file of a crate, each with the place of its text."""
-    return {m.group(1): (m.start(), m.end()) for m in FUNCTION.finditer(read(f"crates/{crate}/{file}"))}
 
 
 def functions_at(crate, edits):
     """The functions that the edits stand in; None for a constant or a definition, which is in none."""
     inside = set()
     for file, old, _ in edits:
-        place = read(f"crates/{crate}/{file}").find(old)
-        inside.update({name for name, (a, b) in functions(crate, file).items() if a <= place < b} or {None})
+        path = f"crates/{crate}/{file}"
+        place = read(path).find(old)
+        there = functions(crate).items()
+        inside.update({name for name, (at, a, b) in there if at == path and a <= place < b} or {None})
     return inside
 
 
@@ -46,7 +42,7 @@ def proof_of(crate, function):
     cycle = re.compile(r"^#\[cycle\((\w+)\)\]\n(?:#.*\n)*(?:pub )?fn %s\b" % function, re.M)
     found = cycle.search(read(f"crates/{crate}/src/lib.rt"))
     name = f"+{found.group(1) if found else function}"
-    return name if found or os.path.isdir(f"crates/{crate}/proofs/{name}") else function
+    return name if found or os.path.isdir(f"crates/{crate}/proofs/{name}") else function.replace("::", "/")
 
 
 def errors_in(log, place):
@@ -57,9 +53,10 @@ def errors_in(log, place):
 
 def unproved_in(log, crate, function):
     """The facts of a function for which the prover has found no proof."""
-    text = read(f"crates/{crate}/src/lib.rt")
-    first, last = (text.count("\n", 0, place) + 1 for place in functions(crate, "src/lib.rt")[function])
-    notes = re.findall(r"^note: src/lib\.rt:(\d+):\d+: it is not proved that .*\(`([^`]*)`\)", log, re.M)
+    path, *places = functions(crate)[function]
+    first, last = (read(path).count("\n", 0, place) + 1 for place in places)
+    file = re.escape(path.removeprefix(f"crates/{crate}/"))
+    notes = re.findall(rf"^note: {file}:(\d+):\d+: it is not proved that .*\(`([^`]*)`\)", log, re.M)
     found = {fact for line, fact in notes if first <= int(line) <= last}
     for facts in re.findall(r"^fn %s::%s: no proof: .* did not prove ([^;\n]*)" % (crate, function), log, re.M):
         found.update(re.findall(r"`([^`]*)`", facts))
@@ -73,7 +70,7 @@ def refused_at(log, crate, at):
     proof = proof_of(crate, at)
     facts = errors_in(log, f"proofs/{proof}/") | unproved_in(log, crate, at)
     # The proof of several functions that call each other has the facts of each, under its name.
-    return {fact for fact in facts if proof in [at, f"+{at}"] or fact.startswith(f"{at}-")}
+    return {fact for fact in facts if proof.replace("/", "::") in [at, f"+{at}"] or fact.startswith(f"{at}-")}
 
 
 def is_refused(log):
