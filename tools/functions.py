@@ -1,8 +1,8 @@
 #!/usr/bin/env python3
 """Writes docs/FUNCTIONS.md: each public function with its promise, the definitions that it cites, its wrong answers.
 
-The promise is the comment at the function (crates/*/src/lib.rt), the definitions are those that its contract names, the
-wrong answers are the edits of crates/*/must-fail. With `--check` nothing is written, and the exit status is 1 where the
+The promise is the comment at the function (crates/*/src), the definitions are those that its contract names, the wrong
+answers are the edits of crates/*/must-fail. A method has the name of its type in front, and a module's that of the file. With `--check` nothing is written, and the exit status is 1 where the
 file is another than would be written.
 """
 import glob
@@ -14,6 +14,7 @@ import textwrap
 sys.dont_write_bytecode = True
 sys.path.insert(0, os.path.dirname(os.path.abspath(__file__)))
 import edits
+import sources
 
 TOP = os.path.join(os.path.dirname(os.path.abspath(__file__)), "..")
 FILE = os.path.join(TOP, "docs", "FUNCTIONS.md")
@@ -23,11 +24,12 @@ not changed by hand. [PROMISES](PROMISES.md) says how to read it, and has the pu
 The crates stand in the order of `crates.txt`. A definition is named with its file under `crates/`; a wrong answer, with
 the label of the edit that the prover refuses."""
 
-COMMENT = r"((?:^//[^\n]*\n)*)"
-ATTRIBUTES = r"(?:^#\[(?:(?!\]$).)*\]\n)*"
+COMMENT = r"((?:^ *//[^\n]*\n)*)"
+ATTRIBUTES = r"(?:^ *#\[(?:(?!\]$).)*\]\n)*"
 FUNCTION = re.compile(COMMENT + ATTRIBUTES + r'^pub (?:extern "C" )?fn (\w+)(.*?)^\{$', re.M | re.S)
+METHOD = re.compile(COMMENT + ATTRIBUTES + r"^    pub fn (\w+)(.*?)^    \{$", re.M | re.S)
 # The definitions that a file names: those of its own crate and of others. What std defines is not among them.
-USE = re.compile(r"^ghost use Rattle\.(?!std\b)(\w+)\.specs\.(\w+)(?: as (\w+)|\.\{(.*?)\});", re.M | re.S)
+USE = re.compile(r"^ *ghost use Rattle\.(?!std\b)(\w+)\.specs\.(\w+)(?: as (\w+)|\.\{(.*?)\});", re.M | re.S)
 # How a clause of a contract begins: its kind, and its name where it has one.
 CLAUSE = re.compile(r"^ *(?:requires|ensures)(?: \w+)? \{", re.M)
 
@@ -43,12 +45,12 @@ def crates():
 
 
 def words(comment):
-    return " ".join(line.lstrip("/").strip() for line in comment.splitlines())
+    return " ".join(line.strip().lstrip("/").strip() for line in comment.splitlines())
 
 
 def cited(text, signature):
     """The definitions that a contract names, by the files that they stand in; a parameter's name is the parameter."""
-    parameters, contract = re.match(r"(.*?)(^    (?:requires|ensures).*)", signature, re.M | re.S).groups()
+    parameters, contract = re.match(r"(.*?)(^ +(?:requires|ensures).*)", signature, re.M | re.S).groups()
     contract = CLAUSE.sub("{", contract)
     names = set(re.findall(r"[^\s(){},.]+", contract)) - set(re.findall(r"(\w+): ", parameters))
     found = {}
@@ -62,12 +64,15 @@ def cited(text, signature):
 
 def public(crate):
     """The public functions of a crate: name, promise and the definitions it cites."""
-    path = os.path.join("crates", crate, "src", "lib.rt")
-    text = read(path) if os.path.exists(os.path.join(TOP, path)) else ""
-    return [
-        {"name": name, "promise": words(comment), "cites": cited(text, signature)}
-        for comment, name, signature in FUNCTION.findall(text)
-    ]
+    found = []
+    for path in sources.files(crate):
+        text, module = read(path), sources.module(path)
+        here = [(module + name, comment, signature) for comment, name, signature in FUNCTION.findall(text)]
+        for block in sources.BLOCK.finditer(text):
+            owner = module + sources.owner(block.group(2))
+            here += [(f"{owner}::{name}", comment, signature) for comment, name, signature in METHOD.findall(block.group(3))]
+        found += [{"name": n, "promise": words(comment), "cites": cited(text, s)} for n, comment, s in here]
+    return found
 
 
 def wrong_answers(crate):

@@ -13,9 +13,12 @@ METHOD = re.compile(ATTRIBUTES + r"^    (?:pub )?fn (\w+)(?:(?!^    \}$|;\n).)*^
 BLOCK = re.compile(r"^(?:pub )?(impl|trait)\b([^{\n]*)\{\n(.*?)^\}$", re.M | re.S)
 
 
+TOP = os.path.join(os.path.dirname(os.path.abspath(__file__)), "..")
+
+
 def files(crate):
-    """The files of a crate's sources, the root first."""
-    found = sorted(glob.glob(f"crates/{crate}/src/*.rt"))
+    """The files of a crate's sources from the top of the repository, the root first."""
+    found = sorted(glob.glob(f"crates/{crate}/src/*.rt", root_dir=TOP))
     return sorted(found, key=lambda path: os.path.basename(path) not in ("lib.rt", "main.rt"))
 
 
@@ -38,7 +41,7 @@ def functions(crate):
     """The functions of a crate, each with its file and the place of its text."""
     found = {}
     for path in files(crate):
-        with open(path, encoding="utf8") as f:
+        with open(os.path.join(TOP, path), encoding="utf8") as f:
             text = f.read()
         for m in FUNCTION.finditer(text):
             found[module(path) + m.group(1)] = (path, m.start(), m.end())
