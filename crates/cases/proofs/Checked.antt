@@ -9,8 +9,8 @@ use native.Mathlib.Omega.{arith}
 use lib.Dec.{eqb, ltb}
 use borrow.Author.Tests.{eqb-true, ltb-true}
 use Rattle.tables.specs.Tables.{StringTable}
-use Rattle.tables.specs.Refusals.{goes_on, Passes}
-use Rattle.tables.specs.declared.Verdict.TheVariants.{Passed}
+use Rattle.std.specs.Prelude.{Ok}
+use Rattle.tables.specs.Codes.{goes_on, Passes}
 use Rattle.schema.specs.Rows as schema
 use Rattle.schema.proofs.RowLaws.{in_table, right_size}
 use Rattle.schema.proofs.Sorts.{definition_kind}
@@ -127,10 +127,10 @@ module _ (r : Row) where
   matches_test pairs valid = job_test && (list_test pairs && valid_is valid)
 
   -- from the verdict on the tables
-  strings_of : {T : StringTable} {s : List ℕ} → SchemaRefusal T s Passes Passed → StringsRight T
+  strings_of : {T : StringTable} {s : List ℕ} → SchemaRefusal T s Passes (Ok tt) → StringsRight T
   strings_of (goes_on strings x) = strings
 
-  passes_of : {T : StringTable} {s : List ℕ} → SchemaRefusal T s Passes Passed → SchemaPasses (schema_strings T) s
+  passes_of : {T : StringTable} {s : List ℕ} → SchemaRefusal T s Passes (Ok tt) → SchemaPasses (schema_strings T) s
   passes_of (goes_on strings x) = passes x
 
   module _ (refusal : NotRefused r) (nodes : NodesRight (instance_strings (tables_at r).strings) t) where
@@ -242,7 +242,9 @@ module _ (r : Row) where
             (and_right
             (pass_test (tables_at r).strings s) (least_test (instance_strings (tables_at r).strings) s c d u l) h),
       )
-  says (refused code place) h = schema_refused (tables_at r).strings s code place h
+  says (refused code place) h =
+      let x = schema_refused (tables_at r).strings s code place h in
+      record { by = x.0; numbered = x.1; refusal = x.2 }
 
 -- the test of a row, and of a table
 unfoldable pub check : Row → Bool

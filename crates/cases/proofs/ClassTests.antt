@@ -12,7 +12,7 @@ use Rattle.tables.proofs.Numbers.{not_less}
 use Rattle.schema.specs.RowRule.{RowsRight}
 use Rattle.schema_classes.specs.Membership.{in_class}
 use Rattle.schema_classes.specs.Least.{Common, NotAfter, LeastCommon}
-use Rattle.schema_classes.specs.declared.Found.TheVariants.{Name}
+use Rattle.std.specs.Prelude.{Some}
 use Rattle.schema_classes.proofs.SmallNames.{small_name}
 use Rattle.tables.proofs.Booleans.{or_either, and_left, and_right, both_and}
 use Rattle.cases.proofs.Tests.{every_below, every_below_lem, some_below, some_below_lem, below_some, no_of}
@@ -84,7 +84,7 @@ module _ (strings : ℕ) (s : List ℕ) (c d : ℕ) where
         go (yes z) = inl z
         go (no z) = let a = h.0 in let b = h.1 in inr (omega arith, omega arith)
 
-    pub least_test_lem : RowsRight strings s → least_test ≡ true → LeastCommon s c d (Name u l)
+    pub least_test_lem : RowsRight strings s → least_test ≡ true → LeastCommon s c d (Some (record { namespace = u; local = l }))
     unfolding least_test
     least_test_lem right pass = (
       record {

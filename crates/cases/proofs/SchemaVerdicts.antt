@@ -1,15 +1,17 @@
 -- Codes 1 to 8 in their order: a test whose success shows the verdict on a schema.
 use Prim.Native.Nat.{ℕ}
-use mathlib.Core.Path.{◌≡◌, refl, sym, subst}
+use mathlib.Core.Path.{◌≡◌, refl, sym}
 use mathlib.Core.Bool.{Bool, true, false, not, ◌&&◌, false≢true}
 use mathlib.Core.List.{List}
 use lib.Dec.{eqb}
 use borrow.Author.Tests.{eqb-true}
 use Rattle.tables.specs.Tables.{StringTable}
 use Rattle.tables.specs.Answers.{Decides, Clear}
-use Rattle.tables.specs.Refusals.{Tries, refused, goes_on, Passes}
-use Rattle.tables.specs.declared.Verdict.{Verdict}
-use Rattle.tables.specs.declared.Verdict.TheVariants.{Passed, Refused}
+use Rattle.std.specs.Prelude.{Result, Ok, Err}
+use Rattle.tables.specs.Codes.{number_of, refusal_at, Tries, refused, goes_on, Passes}
+use Rattle.tables.specs.declared.refusals.Code.{Code}
+use Rattle.tables.specs.declared.refusals.Code.TheVariants as code
+use Rattle.tables.specs.declared.refusals.Refusal.{Refusal}
 use Rattle.strings.specs.Strings.{StringFault, StringsRight, schema_strings}
 use Rattle.schema.specs.Rows.{rows_of}
 use Rattle.schema.specs.RowRule.{RowFault, RowsRight}
@@ -67,12 +69,12 @@ module _ (T : StringTable) (s : List ℕ) where
 
   -- the first fault is by a code from 6 to 8, at row r
   unfoldable pub refused_test : ℕ → ℕ → Bool
-  refused_test code r =
-      elim (eqb code 6) [
+  refused_test n r =
+      elim (eqb n 6) [
         | true ↦ sequenced r && sequence_test s r
-        | false ↦ elim (eqb code 7) [
+        | false ↦ elim (eqb n 7) [
           | true ↦ attributed r && duplicate_test strings s r
-          | false ↦ elim (eqb code 8) [ true ↦ interleaved r && interleave_test strings s r | false ↦ false ]
+          | false ↦ elim (eqb n 8) [ true ↦ interleaved r && interleave_test strings s r | false ↦ false ]
         ]
       ]
 
@@ -87,9 +89,9 @@ module _ (T : StringTable) (s : List ℕ) where
       (and_right (strings_test T) (rows_test strings s) (and_left tables_test (places_test s && path_tests) pass))
 
   -- codes 1 to 5 go on
-  goes_placed : {next : Verdict → Type 0} {v : Verdict} → placed ≡ true → Tries 6 (SequenceFault s) next v
-      → Tries 1 (StringFault T) (Tries 2 (RowFault strings s)
-      (Tries 3 (PlaceFault s) (Tries 4 (NameFault s) (Tries 5 (PathFault s) (Tries 6 (SequenceFault s) next))))) v
+  goes_placed : {next : Result Unit Refusal → Type 0} {v : Result Unit Refusal} → placed ≡ true → Tries code.Content (SequenceFault s) next v
+      → Tries code.Strings (StringFault T) (Tries code.Rows (RowFault strings s)
+      (Tries code.Places (PlaceFault s) (Tries code.Names (NameFault s) (Tries code.Paths (PathFault s) (Tries code.Content (SequenceFault s) next))))) v
   goes_placed pass rest =
       let right = rows_pass pass in
       let places = and_right tables_test (places_test s && path_tests) pass in
@@ -154,14 +156,14 @@ module _ (T : StringTable) (s : List ℕ) where
   unfolding pass_test
   schema_rows pass = right_8 (rows_of s) pass
 
-  pub schema_passes : pass_test ≡ true → SchemaRefusal T s Passes Passed
+  pub schema_passes : pass_test ≡ true → SchemaRefusal T s Passes (Ok tt)
   unfolding pass_test
   schema_passes pass =
       let a = attributed_of (rows_of s) pass in
       goes_placed (placed_7 (rows_of s) a) (goes_on (none_6 (rows_of s) a) (goes_on (none_7 (rows_of s) pass)
       (goes_on (λ r f. clear_8 (rows_of s) pass r (interleave_row (right_size (right_8 (rows_of s) pass)) f) f) refl)))
 
-  refused_6 : (r : ℕ) → (sequenced r && sequence_test s r) ≡ true → SchemaRefusal T s Passes (Refused 6 r)
+  refused_6 : (r : ℕ) → (sequenced r && sequence_test s r) ≡ true → SchemaRefusal T s Passes (Err (refusal_at code.Content r))
   refused_6 r e =
       goes_placed (placed_of r pass) (refused r (go (sequence_test s r) (sequence_test_lem s
       (right_size (rows_pass (placed_of r pass))) r) (and_right (sequenced r) (sequence_test s r) e)) (clear_6 r pass))
@@ -173,36 +175,36 @@ module _ (T : StringTable) (s : List ℕ) where
       go true d i = d
       go false d i = absurd (false≢true i)
 
-  refused_7 : (r : ℕ) → (attributed r && duplicate_test strings s r) ≡ true → SchemaRefusal T s Passes (Refused 7 r)
+  refused_7 : (r : ℕ) → (attributed r && duplicate_test strings s r) ≡ true → SchemaRefusal T s Passes (Err (refusal_at code.Attributes r))
   refused_7 r e =
       let pass = and_left (attributed r) (duplicate_test strings s r) e in
       goes_placed (placed_7 r pass) (goes_on (none_6 r pass) (refused r
       (attribute_fault strings s r (and_right (attributed r) (duplicate_test strings s r) e)) (clear_7 r pass)))
 
-  refused_8 : (r : ℕ) → (interleaved r && interleave_test strings s r) ≡ true → SchemaRefusal T s Passes (Refused 8 r)
+  refused_8 : (r : ℕ) → (interleaved r && interleave_test strings s r) ≡ true → SchemaRefusal T s Passes (Err (refusal_at code.Interleaves r))
   refused_8 r e =
       let pass = and_left (interleaved r) (interleave_test strings s r) e in
       let a = attributed_of r pass in
       goes_placed (placed_7 (rows_of s) a) (goes_on (none_6 (rows_of s) a) (goes_on (none_7 r pass) (refused r
       (interleave_fault strings s r (and_right (interleaved r) (interleave_test strings s r) e)) (clear_8 r pass))))
 
-  pub schema_refused : (code r : ℕ) → refused_test code r ≡ true → SchemaRefusal T s Passes (Refused code r)
-  unfolding refused_test
-  schema_refused code r = go (eqb code 6) refl (eqb code 7) refl (eqb code 8) refl
-    where
-      named : (n : ℕ) → eqb code n ≡ true → SchemaRefusal T s Passes (Refused n r)
-          → SchemaRefusal T s Passes (Refused code r)
-      named n e v = subst (λ (k : ℕ). SchemaRefusal T s Passes (Refused k r)) (sym (eqb-true code n e)) v
+  -- the verdict by a code with that number
+  abbrev pub RefusedBy : ℕ → ℕ → Type 0
+  RefusedBy n r = (c : Code) × (number_of c ≡ n) × SchemaRefusal T s Passes (Err (refusal_at c r))
 
-      go : (a : Bool) → eqb code 6 ≡ a → (b : Bool) → eqb code 7 ≡ b → (c : Bool) → eqb code 8 ≡ c
+  pub schema_refused : (n r : ℕ) → refused_test n r ≡ true → RefusedBy n r
+  unfolding refused_test
+  schema_refused n r = go (eqb n 6) refl (eqb n 7) refl (eqb n 8) refl
+    where
+      go : (a : Bool) → eqb n 6 ≡ a → (b : Bool) → eqb n 7 ≡ b → (c : Bool) → eqb n 8 ≡ c
           → elim a [
             | true ↦ sequenced r && sequence_test s r
             | false ↦ elim b [
               | true ↦ attributed r && duplicate_test strings s r
               | false ↦ elim c [ true ↦ interleaved r && interleave_test strings s r | false ↦ false ]
             ]
-          ] ≡ true → SchemaRefusal T s Passes (Refused code r)
-      go true f b g c h e = named 6 f (refused_6 r e)
-      go false f true g c h e = named 7 g (refused_7 r e)
-      go false f false g true h e = named 8 h (refused_8 r e)
+          ] ≡ true → RefusedBy n r
+      go true f b g c h e = (code.Content, sym (eqb-true n 6 f), refused_6 r e)
+      go false f true g c h e = (code.Attributes, sym (eqb-true n 7 g), refused_7 r e)
+      go false f false g true h e = (code.Interleaves, sym (eqb-true n 8 h), refused_8 r e)
       go false f false g false h e = absurd (false≢true e)

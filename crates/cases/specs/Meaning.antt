@@ -1,11 +1,10 @@
 -- What a row of the table of cases says of a job's tables, by the definitions that the promises cite.
-use Rattle.std.specs.Prelude.{ℕ, Bool, true, false, List, [], ◌∷◌}
+use Rattle.std.specs.Prelude.{ℕ, ◌≡◌, Bool, true, false, List, [], ◌∷◌, Ok, Err, Some}
 use Rattle.tables.specs.Tables.{string_table, Tables, tables_of}
 use Rattle.strings.specs.Strings.{instance_strings}
-use Rattle.tables.specs.Refusals.{Passes}
-use Rattle.tables.specs.declared.Verdict.TheVariants.{Passed, Refused}
+use Rattle.tables.specs.Codes.{number_of, refusal_at, Passes}
+use Rattle.tables.specs.declared.refusals.Code.{Code}
 use Rattle.schema_classes.specs.Least.{LeastCommon}
-use Rattle.schema_classes.specs.declared.Found.TheVariants.{Name}
 use Rattle.instance.specs.NodeRule.{NodesRight}
 use Rattle.instance.specs.Width.{WidthFault}
 use Rattle.relaxng.specs.Promises.{SchemaRefusal}
@@ -36,7 +35,7 @@ IsValid false J = ¬ Valid J
 
 -- no code from 1 to 8 finds a fault
 abbrev pub NotRefused : Row → Type 0
-NotRefused r = SchemaRefusal (tables_at r).strings r.schema Passes Passed
+NotRefused r = SchemaRefusal (tables_at r).strings r.schema Passes (Ok tt)
 
 -- no code from 1 to 10 finds a fault, the list has exactly the pairs, in order, and the instance is valid or not
 pub record Matching (r : Row) (pairs : List (ℕ × ℕ)) (valid : Bool) : Type 0 where
@@ -47,10 +46,16 @@ pub record Matching (r : Row) (pairs : List (ℕ × ℕ)) (valid : Bool) : Type 
   pub listed : Lists (Pair (tables_at r)) pairs
   pub validity : IsValid valid (tables_at r)
 
+-- a code with that number refuses the schema at the place
+pub record Refused (r : Row) (code place : ℕ) : Type 0 where
+  pub by : Code
+  pub numbered : number_of by ≡ code
+  pub refusal : SchemaRefusal (tables_at r).strings r.schema Passes (Err (refusal_at by place))
+
 abbrev pub CaseSays : Row → Expected → Type 0
 CaseSays r (matches pairs valid) = Matching r pairs valid
-CaseSays r (least c d u l) = NotRefused r × LeastCommon r.schema c d (Name u l)
-CaseSays r (refused code place) = SchemaRefusal (tables_at r).strings r.schema Passes (Refused code place)
+CaseSays r (least c d u l) = NotRefused r × LeastCommon r.schema c d (Some (record { namespace = u; local = l }))
+CaseSays r (refused code place) = Refused r code place
 
 abbrev pub CaseHolds : Row → Type 0
 CaseHolds r = CaseSays r r.expected

@@ -19,9 +19,10 @@ use Rattle.job.specs.Reading.{no_tables}
 use Rattle.job_lines.specs.Promises.{Room, room_of, OutputsHold}
 use Rattle.job_reader.proofs.Answer.{room_of_lem}
 use Rattle.job_texts.specs.Writing.{TextIn}
-use Rattle.relaxng.specs.declared.MatchAnswer.TheVariants.{Valid, NotValid, NotMatched}
+use Rattle.std.specs.Prelude.{Ok, Err}
+use Rattle.tables.specs.Codes.{number_of}
 use Rattle.report.specs.Report.{Reports, not_read, answered}
-use Rattle.farshavan.specs.Packed.{packed_refusal, fits_in, Handed}
+use Rattle.farshavan.specs.Packed.{packed_short, fits_in, Handed}
 
 fits_in_lem : (run : List ℕ) (room : ℕ) → length run ≤ room → fits_in room run ≡ true
 fits_in_lem run room h = go (fits_in room run) refl
@@ -43,7 +44,7 @@ handed_whole {run} {out} {value} {room} {r} h e o =
     let f = fits_in_lem run room h in
     record { number = rw f e; output = rw f o }
 
-pub handed_short : {run out : List ℕ} {value room r : ℕ} → room < length run → r ≡ packed_refusal 12 0
+pub handed_short : {run out : List ℕ} {value room r : ℕ} → room < length run → r ≡ packed_short
     → out ≡ zeros room
     → Handed run value room out r
 handed_short {run} {out} {value} {room} {r} h e o =
@@ -92,12 +93,11 @@ refusal_not_empty code place =
 
 report_not_empty : {file text : List ℕ} → Reports file text → 0 < length text
 report_not_empty (not_read line e t) = rw t (refusal_not_empty 13 line)
-report_not_empty (answered t list after (Valid pairs) e m t') = rw t' (match_not_empty true (take (pairs * 2) list))
-report_not_empty (answered t list after (NotValid pairs) e m t') = rw t' (match_not_empty false (take (pairs * 2) list))
-report_not_empty (answered t list after (NotMatched code place) e m t') = rw t' (refusal_not_empty code place)
+report_not_empty (answered t list after (Ok m) e l t') = rw t' (match_not_empty m.valid (take (m.pairs * 2) list))
+report_not_empty (answered t list after (Err r) e l t') = rw t' (refusal_not_empty (number_of r.code) r.place)
 
 pub text_short : {file text out : List ℕ} {room n r : ℕ} → Reports file text → TextIn text room out n → n ≡ 0
-    → r ≡ packed_refusal 12 0 → Handed text (length text) room out r
+    → r ≡ packed_short → Handed text (length text) room out r
 text_short {file} {text} {out} {room} {n} {r} p w e q =
     ⊎_elim (λ h. handed_short h q (w.short h).0)
     (λ h. absurd (let y = (w.fits h).1 in let z = report_not_empty p in omega arith))

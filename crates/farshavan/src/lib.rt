@@ -27,24 +27,23 @@ ghost use Rattle.farshavan.specs.Packed.{
   PackedReport,
 };
 
-use job_reader::JobRead;
-use job_writer::JobWritten;
-use relaxng::{CommonName, MatchAnswer, Membership, Validation};
-use tables::Verdict;
+use matching_list::Matches;
+use schema_classes::{Member, Name};
+use tables::{Code, Refusal};
 
 // A refusal as one number: the code in the upper half, the place in the lower.
-fn pack_refusal(code: u32, place: u32) -> u64
-    ensures { result ≡ packed_refusal code place }
+fn pack_refusal(refusal: Refusal) -> u64
+    ensures { result ≡ packed_refusal refusal }
 {
-    (code as u64) * 4294967296 + place as u64
+    (refusal.code.number() as u64) * 4294967296 + refusal.place as u64
 }
 
-fn pack_verdict(verdict: Verdict) -> u64
+fn pack_verdict(verdict: Result<(), Refusal>) -> u64
     ensures { result ≡ packed_verdict verdict }
 {
     match verdict {
-        Verdict::Passed => 0,
-        Verdict::Refused(code, place) => pack_refusal(code, place),
+        Ok(()) => 0,
+        Err(refusal) => pack_refusal(refusal),
     }
 }
 
@@ -61,28 +60,28 @@ fn hand_words(run: &[u32], value: u64, out: &mut [u32]) -> u64
     ensures { Handed run.now value (length out.old) out.new result }
 {
     if out.len() < run.len() {
-        tables::zero_u32(out);
-        return pack_refusal(12, 0);
+        tables::zero(out);
+        return pack_refusal(Code::Room.at(0));
     }
-    tables::lay_u32(out, run);
+    tables::lay(out, run);
     value
 }
 
-fn hand_row(answer: Membership, row: &mut [u32]) -> u64
+fn hand_row(answer: Result<Member, Refusal>, row: &mut [u32]) -> u64
     ensures { Handed (row_words answer) (packed_membership answer) (length row.old) row.new result }
 {
     match answer {
-        Membership::Yes(at) => {
+        Ok(Member::Yes(at)) => {
             let words = [at];
             hand_words(&words, 1, row)
         }
-        Membership::No(at) => {
+        Ok(Member::No(at)) => {
             let words = [at];
             hand_words(&words, 0, row)
         }
-        Membership::NotJudged(code, place) => {
-            tables::zero_u32(row);
-            pack_refusal(code, place)
+        Err(refusal) => {
+            tables::zero(row);
+            pack_refusal(refusal)
         }
     }
 }
@@ -108,21 +107,21 @@ pub extern "C" fn farshavan_name_in_class(
     )
 }
 
-fn hand_name(answer: CommonName, name: &mut [u32]) -> u64
+fn hand_name(answer: Result<Option<Name>, Refusal>, name: &mut [u32]) -> u64
     ensures { Handed (name_words answer) (packed_name answer) (length name.old) name.new result }
 {
     match answer {
-        CommonName::Least(namespace, local) => {
-            let words = [namespace, local];
+        Ok(Some(least)) => {
+            let words = [least.namespace, least.local];
             hand_words(&words, 1, name)
         }
-        CommonName::None => {
-            tables::zero_u32(name);
+        Ok(None) => {
+            tables::zero(name);
             0
         }
-        CommonName::NotSought(code, place) => {
-            tables::zero_u32(name);
-            pack_refusal(code, place)
+        Err(refusal) => {
+            tables::zero(name);
+            pack_refusal(refusal)
         }
     }
 }
@@ -147,13 +146,12 @@ pub extern "C" fn farshavan_least_common_name(
     )
 }
 
-fn pack_validation(answer: Validation) -> u64
+fn pack_validation(answer: Result<bool, Refusal>) -> u64
     ensures { result ≡ packed_validation answer }
 {
     match answer {
-        Validation::Valid => 1,
-        Validation::NotValid => 0,
-        Validation::NotValidated(code, place) => pack_refusal(code, place),
+        Ok(valid) => valid as u64,
+        Err(refusal) => pack_refusal(refusal),
     }
 }
 
@@ -172,13 +170,12 @@ pub extern "C" fn farshavan_verdict(
     pack_validation(relaxng::verdict(bytes, ends, schema, instance, work))
 }
 
-fn pack_matches(answer: MatchAnswer) -> u64
+fn pack_matches(answer: Result<Matches, Refusal>) -> u64
     ensures { result ≡ packed_matches answer }
 {
     match answer {
-        MatchAnswer::Valid(pairs) => (pairs as u64) * 2 + 1,
-        MatchAnswer::NotValid(pairs) => (pairs as u64) * 2,
-        MatchAnswer::NotMatched(code, place) => pack_refusal(code, place),
+        Ok(matches) => (matches.pairs as u64) * 2 + matches.valid as u64,
+        Err(refusal) => pack_refusal(refusal),
     }
 }
 
@@ -207,10 +204,10 @@ pub extern "C" fn farshavan_string_text(bytes: &[u8], ends: &[u32], k: u32, text
 {
     let part = strings::string_text(bytes, ends, k);
     if text.len() < part.len() {
-        tables::zero_u8(text);
-        return pack_refusal(12, 0);
+        tables::zero(text);
+        return pack_refusal(Code::Room.at(0));
     }
-    tables::lay_u8(text, part);
+    tables::lay(text, part);
     part.len() as u64
 }
 
@@ -230,27 +227,27 @@ pub extern "C" fn farshavan_read_job(
 {
     let answer = job_reader::read_job(file, bytes, ends, schema, instance);
     match answer {
-        JobRead::Read(b, s, r, n) => {
-            let words = [b, s, r, n];
+        Ok(job) => {
+            let words = [job.bytes, job.strings, job.rows, job.nodes];
             let number = hand_words(&words, 0, counts);
             if number != 0 {
                 job_lines::zero_outputs(bytes, ends, schema, instance);
             }
             number
         }
-        JobRead::NotRead(code, place) => {
-            tables::zero_u32(counts);
-            pack_refusal(code, place)
+        Err(refusal) => {
+            tables::zero(counts);
+            pack_refusal(refusal)
         }
     }
 }
 
-fn pack_written(answer: JobWritten) -> u64
+fn pack_written(answer: Result<u32, Refusal>) -> u64
     ensures { result ≡ packed_written answer }
 {
     match answer {
-        JobWritten::Written(size) => size as u64,
-        JobWritten::NotWritten(code, place) => pack_refusal(code, place),
+        Ok(size) => size as u64,
+        Err(refusal) => pack_refusal(refusal),
     }
 }
 
@@ -277,7 +274,7 @@ pub extern "C" fn farshavan_report(file: &[u8], text: &mut [u8]) -> u64
 {
     let length = report::report(file, text);
     if length == 0 {
-        return pack_refusal(12, 0);
+        return pack_refusal(Code::Room.at(0));
     }
     length as u64
 }

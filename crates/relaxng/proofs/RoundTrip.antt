@@ -9,26 +9,23 @@ use lib.Seq.{take-take, take-append_seam}
 use borrow.Author.Tests.{le-leb}
 use Rattle.tables.proofs.Numbers.{not_less, is_same}
 use Rattle.tables.specs.Outputs.{zeros}
-use Rattle.tables.specs.Refusals.{goes_on}
+use Rattle.std.specs.Prelude.{Result, Ok}
+use Rattle.tables.specs.Codes.{goes_on}
 use Rattle.tables.specs.Tables.{Tables}
-use Rattle.tables.specs.declared.Verdict.TheVariants.{Passed}
-use Rattle.schema.specs.Rows.{rows_of}
-use Rattle.instance.specs.Nodes.{nodes_of}
+use Rattle.tables.specs.declared.refusals.Refusal.{Refusal}
 use Rattle.job.specs.Reading.{Reading, read, read_job}
 use Rattle.job.specs.Written.{job_text}
 use Rattle.job.proofs.Job.{Writable, round_trip}
 use Rattle.job_lines.specs.Promises.{Room, OutputsHold}
-use Rattle.job_reader.specs.Promises.{fits, given, Counts, JobAnswer}
-use Rattle.job_reader.specs.declared.JobRead.{JobRead}
-use Rattle.job_reader.specs.declared.JobRead.TheVariants.{Read, NotRead}
+use Rattle.job_reader.specs.Promises.{fits, given, counts_in, JobAnswer}
+use Rattle.job_reader.specs.declared.Counts.{Counts}
 use Rattle.job_writer.specs.Promises.{WriteJob, too_many_rows, broken_length, too_long, too_short}
 use Rattle.job_writer.proofs.Job.{Chain}
-use Rattle.job_writer.specs.declared.JobWritten.TheVariants.{Written}
 use Rattle.relaxng.specs.RoundTrip.{MachineWords, LongEnough, RoundTrip}
 
 module _ (J : Tables) where
   -- the chain of the writer, passed
-  passed : {room : ℕ} → Chain J room Passed → MachineWords J → Writable J × (length (job_text J) ≤ room)
+  passed : {room : ℕ} → Chain J room (Ok tt) → MachineWords J → Writable J × (length (job_text J) ≤ room)
   passed (goes_on strings (goes_on rows (goes_on nodes (goes_on text e)))) m = (
     record {
       strings_right = strings;
@@ -44,7 +41,7 @@ module _ (J : Tables) where
     not_less (λ f. text 0 (too_short f refl)),
   )
 
-  module _ {size n : ℕ} {out : List ℕ} (m : MachineWords J) (w : WriteJob J size out (Written n)) where
+  module _ {size n : ℕ} {out : List ℕ} (m : MachineWords J) (w : WriteJob J size out (Ok n)) where
     -- the first n bytes of the output are the text
     file_is_text : take n out ≡ job_text J
     file_is_text =
@@ -69,12 +66,9 @@ module _ (J : Tables) where
     whole : given (read J) room ≡ J
     whole = rw fits_all
 
-    sizes : {reading : Reading} (r : JobRead) → reading ≡ read J → JobAnswer reading room r
-        → r ≡ Read (length J.strings.bytes) (length J.strings.ends) (rows_of J.schema) (nodes_of J.instance)
-    sizes (Read bytes strings rows nodes) e a =
-        let q = rw (e, fits_all) at a.counts in
-        ap (λ (k : Counts). Read k.bytes k.strings k.rows k.nodes) q
-    sizes (NotRead code place) e a = let q = rw (e, fits_all) at a.code in let c = a.coded in absurd (omega arith)
+    sizes : {reading : Reading} {r : Result Counts Refusal} → reading ≡ read J → JobAnswer reading room r
+        → r ≡ Ok (counts_in J)
+    sizes e a = a ∙ rw (e, fits_all) refl
 
     tables_back : {reading : Reading} {bytes ends schema instance : List ℕ}
         → reading ≡ read J → OutputsHold (given reading room) room bytes ends schema instance
@@ -85,6 +79,6 @@ module _ (J : Tables) where
 
 pub reads_back : (J : Tables) → RoundTrip J
 reads_back J size n out m w room bytes ends schema instance r long x = record {
-  answer = sizes J long r (reads_as J m w) x.answer;
+  answer = sizes J long (reads_as J m w) x.answer;
   outputs = tables_back J long (reads_as J m w) x.outputs;
 }

@@ -1,6 +1,6 @@
 -- What a job file reads as fits the tables that are lent, and comes back from their fronts.
 use Prim.Native.Nat.{ℕ, ◌*◌, ◌≤◌, ◌<◌}
-use mathlib.Core.Path.{◌≡◌, refl, ◌∙◌, ap, subst}
+use mathlib.Core.Path.{◌≡◌, refl, sym, ◌∙◌, ap, subst}
 use mathlib.Core.Bool.{true}
 use mathlib.Core.List.{List, ◌++◌}
 use native.Mathlib.Decide.{dec_lt}
@@ -17,14 +17,16 @@ use Rattle.job.specs.Reading.{Reading, read, wrong, read_job}
 use Rattle.job.specs.Reported.{refusal_text}
 use Rattle.job.proofs.Limits.{Limited, limited}
 use Rattle.job_lines.specs.Promises.{Room, room_of, OutputsHold}
-use Rattle.job_reader.specs.Promises.{fits, given, JobAnswer}
-use Rattle.job_reader.proofs.Answer.{read_answer, one_answer}
-use Rattle.job_reader.specs.declared.JobRead.{JobRead}
-use Rattle.job_reader.specs.declared.JobRead.TheVariants.{Read, NotRead}
-use Rattle.relaxng.specs.Answers.{match_verdict, pair_count}
-use Rattle.tables.specs.Refusals.{code_of}
+use Rattle.std.specs.Prelude.{Result, Ok, Err}
+use Rattle.tables.specs.Codes.{number_of, refusal_at, code_of}
+use Rattle.tables.specs.declared.refusals.Code.TheVariants.{Line}
+use Rattle.tables.specs.declared.refusals.Refusal.{Refusal}
+use Rattle.tables.proofs.Codes.{ok_same, err_same, ok_err}
+use Rattle.job_reader.specs.Promises.{counts_in, fits, read_answer, given, JobAnswer}
+use Rattle.job_reader.specs.declared.Counts.{Counts}
+use Rattle.matching_list.specs.declared.Matches.{Matches}
+use Rattle.relaxng.specs.Answers.{pair_count}
 use Rattle.relaxng.specs.Matching.{ListsMatches}
-use Rattle.relaxng.specs.declared.MatchAnswer.{MatchAnswer}
 use Rattle.job_texts.specs.Writing.{TextIn}
 use Rattle.report.specs.Report.{list_room, work_room, answer_text, not_read, answered, Reported, Answered}
 
@@ -50,14 +52,14 @@ front_laid : (n : ℕ) (run : List ℕ) → length run ≤ n → take (length ru
 front_laid n run h = take-take (length run) n (run ++ zeros n) h ∙ take-append_seam run (zeros n)
 
 -- a reading is wrong or gives the four counts
-pub data Told (file : List ℕ) : JobRead → Type 0 where
-  told_wrong : (line : ℕ) → read_job file ≡ wrong line → Told file (NotRead 13 line)
-  told_read : (t : Tables) → read_job file ≡ read t → Limited t → given (read_job file) lent ≡ t → Told file
-      (Read (length t.strings.bytes) (length t.strings.ends) (rows_of t.schema) (nodes_of t.instance))
+pub data Told (file : List ℕ) : Result Counts Refusal → Type 0 where
+  told_wrong : (line : ℕ) → read_job file ≡ wrong line → Told file (Err (refusal_at Line line))
+  told_read : (t : Tables) → read_job file ≡ read t → Limited t → given (read_job file) lent ≡ t
+      → Told file (Ok (counts_in t))
 
-pub told : (file : List ℕ) {job : JobRead} → JobAnswer (read_job file) empty job → Told file job
+pub told : (file : List ℕ) {job : Result Counts Refusal} → JobAnswer (read_job file) empty job → Told file job
 told file {job} a =
-    go (read_job file) refl (one_answer (read_job file) empty job a ∙ ap (read_answer (read_job file)) is_lent)
+    go (read_job file) refl (a ∙ ap (read_answer (read_job file)) is_lent)
   where
     go : (r : Reading) → read_job file ≡ r → job ≡ read_answer r lent → Told file job
     go (wrong line) f g = rw g (told_wrong line f)
@@ -107,24 +109,22 @@ module _ {t : Tables} (l : Limited t) {bytes ends schema instance : List ℕ}
       (front_laid 5120 t.instance (let a = l.lengths.of_instance in let b = l.few_nodes in omega arith))
 
 -- the pairs of an answer fit the words that are lent
-pub pairs_fit : {J : Tables} {list after : List ℕ} {r : MatchAnswer} {pairs : ℕ}
-    → ListsMatches J list_room work_room list after r
-    → code_of (match_verdict r) ≡ 0 → pair_count r ≡ pairs → pairs * 2 ≤ list_room
-pairs_fit lists e f =
-    let m = lists.matched e in
-    let a = m.written.fit in
-    let b = m.written.counted in
-    omega arith
+pub pairs_fit : {J : Tables} {list after : List ℕ} {r : Result Matches Refusal} {m : Matches}
+    → ListsMatches J list_room work_room list after r → r ≡ Ok m → m.pairs * 2 ≤ list_room
+pairs_fit {r = r} {m = m} lists e =
+    let w = (lists.matched (ap code_of e)).written in
+    let c : m.pairs ≡ pair_count r = sym (ap pair_count e) in
+    omega (arith, c, w.fit, w.counted)
 
 -- the list that is lent has so many words, and the work buffer so many bytes
-pub lent_buffers : {J : Tables} {list after : List ℕ} {r : MatchAnswer} → ListsMatches J (length (zeros list_room))
+pub lent_buffers : {J : Tables} {list after : List ℕ} {r : Result Matches Refusal} → ListsMatches J (length (zeros list_room))
     (length (zeros work_room)) list after r → ListsMatches J list_room work_room list after r
 lent_buffers {J} {list} {after} {r} l =
     subst (λ (work : ℕ). ListsMatches J list_room work list after r) (length-replicate {A = ℕ} work_room 0)
     (subst (λ (room : ℕ). ListsMatches J room (length (zeros work_room)) list after r)
     (length-replicate {A = ℕ} list_room 0) l)
 
-pub is_answered : {J : Tables} {list after out : List ℕ} {room n : ℕ} {r q : MatchAnswer}
+pub is_answered : {J : Tables} {list after out : List ℕ} {room n : ℕ} {r q : Result Matches Refusal}
     → ListsMatches J list_room work_room list after r → r ≡ q
     → TextIn (answer_text q list) room out n → Answered J room out n
 is_answered {list = list} {after = after} {r = r} lists e w =
@@ -142,67 +142,52 @@ pub and_within : {file out : List ℕ} {room n : ℕ} → Reported file room out
 and_within r = (r, text_within r.written)
 
 -- the counts keep to the tables that are lent
-pub record Within (b s r n : ℕ) : Type 0 where
-  pub few_bytes : b ≤ 16384
-  pub few_strings : s ≤ 512
-  pub few_rows : r * 3 ≤ 1536
-  pub few_nodes : n * 5 ≤ 5120
+pub record Within (k : Counts) : Type 0 where
+  pub few_bytes : k.bytes ≤ 16384
+  pub few_strings : k.strings ≤ 512
+  pub few_rows : k.rows * 3 ≤ 1536
+  pub few_nodes : k.nodes * 5 ≤ 5120
 
-pub within : {file : List ℕ} {b s r n : ℕ} → Told file (Read b s r n) → Within b s r n
-within {file} {b} {s} {r} {n} t = go (Read b s r n) refl t
-  where
-    go : (j : JobRead) → j ≡ Read b s r n → Told file j → Within b s r n
-    go j e (told_wrong line f) = let z : ◌≡◌ {A = ℕ} 0 1 = cc e in absurd (omega arith)
-    go j e (told_read t f l g) =
-        let x₁ : length t.strings.bytes ≡ b = cc e in
-        let x₂ : length t.strings.ends ≡ s = cc e in
-        let x₃ : rows_of t.schema ≡ r = cc e in
-        let x₄ : nodes_of t.instance ≡ n = cc e in
-        let y₁ = l.lengths.few_bytes in
-        let y₂ = l.lengths.of_ends in
-        let y₃ = l.lengths.of_schema in
-        let y₄ = l.lengths.of_instance in
-        let z₂ = l.few_strings in
-        let z₃ = l.few_rows in
-        let z₄ = l.few_nodes in
-        record { few_bytes = omega arith; few_strings = omega arith; few_rows = omega arith; few_nodes = omega arith }
+counted_within : {t : Tables} → Limited t → Within (counts_in t)
+counted_within l = record {
+  few_bytes = l.lengths.few_bytes;
+  few_strings = let a = l.lengths.of_ends in let b = l.few_strings in omega arith;
+  few_rows = let a = l.few_rows in omega arith;
+  few_nodes = let a = l.few_nodes in omega arith;
+}
+
+pub within : {file : List ℕ} {j : Result Counts Refusal} {k : Counts} → Told file j → j ≡ Ok k → Within k
+within (told_wrong line f) e = absurd (ok_err (sym e))
+within (told_read t f l g) e = subst Within (ok_same e) (counted_within l)
 
 -- ---- the report
 
-pub report_wrong : {file out : List ℕ} {room n code place : ℕ} → Told file (NotRead code place)
-    → TextIn (refusal_text code place) room out n → Reported file room out n
-report_wrong {file} {out} {room} {n} {code} {place} t w = go (NotRead code place) refl t
-  where
-    go : (j : JobRead) → j ≡ NotRead code place → Told file j → Reported file room out n
-    go j e (told_wrong line f) =
-        let a : code ≡ 13 = cc e in
-        let b : place ≡ line = cc e in
-        record { text = refusal_text code place; reports = not_read line f (rw (a, b)); written = w }
-    go j e (told_read t f l g) = let z : ◌≡◌ {A = ℕ} 0 1 = cc e in absurd (omega arith)
+pub report_wrong : {file out : List ℕ} {room n : ℕ} {j : Result Counts Refusal} {r : Refusal} → Told file j → j ≡ Err r
+    → TextIn (refusal_text (number_of r.code) r.place) room out n → Reported file room out n
+report_wrong {r = r} (told_wrong line f) e w = record {
+  text = refusal_text (number_of r.code) r.place;
+  reports = not_read line f (rw (← err_same e) refl);
+  written = w;
+}
+report_wrong (told_read t f l g) e w = absurd (ok_err e)
 
-pub report_read : {file : List ℕ} {b s r n : ℕ} {bytes ends schema instance : List ℕ} {out : List ℕ} {room m : ℕ}
-    → Told file (Read b s r n) → OutputsHold (given (read_job file) empty) empty bytes ends schema instance
-    → Answered (tables_of (string_table (take b bytes) (take s ends)) (take (r * 3) schema) (take (n * 5) instance))
-    room out m → Reported file room out m
-report_read {file} {b} {s} {r} {n} {bytes} {ends} {schema} {instance} {out} {room} {m} t holds a =
-    go (Read b s r n) refl t
-  where
-    go : (j : JobRead) → j ≡ Read b s r n → Told file j → Reported file room out m
-    go j e (told_wrong line f) = let z : ◌≡◌ {A = ℕ} 0 1 = cc e in absurd (omega arith)
-    go j e (told_read t f l g) =
-        let x₁ : b ≡ length t.strings.bytes = cc e in
-        let x₂ : s ≡ length t.strings.ends = cc e in
-        let x₃ : r ≡ rows_of t.schema = cc e in
-        let x₄ : n ≡ nodes_of t.instance = cc e in
-        let h : OutputsHold t lent bytes ends schema instance =
-        subst (λ (u : Tables). OutputsHold u lent bytes ends schema instance) g
-        (subst (λ (w : Room). OutputsHold (given (read_job file) w) w bytes ends schema instance) is_lent holds) in
-        let y₁ = ap (λ (k : ℕ). take k bytes) x₁ ∙ bytes_back l h in
-        let y₂ = ap (λ (k : ℕ). take k ends) x₂ ∙ ends_back l h in
-        let y₃ = ap (λ (k : ℕ). take (k * 3) schema) x₃ ∙ schema_back l h in
-        let y₄ = ap (λ (k : ℕ). take (k * 5) instance) x₄ ∙ instance_back l h in
-        record {
-          text = answer_text a.matches a.list;
-          reports = answered t a.list a.after a.matches f (rw (y₁, y₂, y₃, y₄) at a.lists) refl;
-          written = a.written;
-        }
+pub report_read : {file : List ℕ} {j : Result Counts Refusal} {k : Counts} {bytes ends schema instance : List ℕ}
+    {out : List ℕ} {room m : ℕ}
+    → Told file j → j ≡ Ok k → OutputsHold (given (read_job file) empty) empty bytes ends schema instance
+    → Answered (tables_of (string_table (take k.bytes bytes) (take k.strings ends))
+    (take (k.rows * 3) schema) (take (k.nodes * 5) instance)) room out m → Reported file room out m
+report_read (told_wrong line f) e holds a = absurd (ok_err (sym e))
+report_read {file} {k = k} {bytes} {ends} {schema} {instance} (told_read t f l g) e holds a =
+    let q : k ≡ counts_in t = sym (ok_same e) in
+    let h : OutputsHold t lent bytes ends schema instance =
+    subst (λ (u : Tables). OutputsHold u lent bytes ends schema instance) g
+    (subst (λ (w : Room). OutputsHold (given (read_job file) w) w bytes ends schema instance) is_lent holds) in
+    let y₁ = ap (λ (c : Counts). take c.bytes bytes) q ∙ bytes_back l h in
+    let y₂ = ap (λ (c : Counts). take c.strings ends) q ∙ ends_back l h in
+    let y₃ = ap (λ (c : Counts). take (c.rows * 3) schema) q ∙ schema_back l h in
+    let y₄ = ap (λ (c : Counts). take (c.nodes * 5) instance) q ∙ instance_back l h in
+    record {
+      text = answer_text a.matches a.list;
+      reports = answered t a.list a.after a.matches f (rw (y₁, y₂, y₃, y₄) at a.lists) refl;
+      written = a.written;
+    }

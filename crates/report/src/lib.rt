@@ -7,9 +7,6 @@ ghost use Rattle.job.specs.Reported.{match_text};
 ghost use Rattle.job_texts.specs.Writing.{TextIn};
 ghost use Rattle.report.specs.Report.{list_room, Reported, Answered};
 
-use job_reader::JobRead;
-use relaxng::MatchAnswer;
-
 // The text of a list of so many pairs.
 fn write_pairs(valid: bool, list: &[u32], pairs: u32, out: &mut [u8]) -> u32
     requires { (pairs * 2 ≤ length list.now) × (pairs * 2 ≤ list_room) }
@@ -26,11 +23,9 @@ fn answer(bytes: &[u8], ends: &[u32], schema: &[u32], instance: &[u32], out: &mu
 {
     let mut list = [0u32; 16384];
     let mut work = [0u8; 49155];
-    let matches = relaxng::match_list(bytes, ends, schema, instance, &mut list, &mut work);
-    match matches {
-        MatchAnswer::Valid(pairs) => write_pairs(true, &list, pairs, out),
-        MatchAnswer::NotValid(pairs) => write_pairs(false, &list, pairs, out),
-        MatchAnswer::NotMatched(code, place) => job_texts::write_refusal(code, place, out),
+    match relaxng::match_list(bytes, ends, schema, instance, &mut list, &mut work) {
+        Ok(matches) => write_pairs(matches.valid, &list, matches.pairs, out),
+        Err(refusal) => job_texts::write_refusal(refusal.code.number(), refusal.place, out),
     }
 }
 
@@ -43,19 +38,14 @@ pub fn report(file: &[u8], out: &mut [u8]) -> u32
     let mut ends = [0u32; 512];
     let mut schema = [0u32; 1536];
     let mut instance = [0u32; 5120];
-    let job = job_reader::read_job(file, &mut bytes, &mut ends, &mut schema, &mut instance);
-    match job {
-        JobRead::Read(b, s, r, n) => {
-            let rows = r as usize * 3;
-            let nodes = n as usize * 5;
-            answer(
-                &bytes[..b as usize],
-                &ends[..s as usize],
-                &schema[..rows],
-                &instance[..nodes],
-                out,
-            )
-        }
-        JobRead::NotRead(code, place) => job_texts::write_refusal(code, place, out),
+    match job_reader::read_job(file, &mut bytes, &mut ends, &mut schema, &mut instance) {
+        Ok(counts) => answer(
+            &bytes[..counts.bytes as usize],
+            &ends[..counts.strings as usize],
+            &schema[..counts.rows as usize * 3],
+            &instance[..counts.nodes as usize * 5],
+            out,
+        ),
+        Err(refusal) => job_texts::write_refusal(refusal.code.number(), refusal.place, out),
     }
 }

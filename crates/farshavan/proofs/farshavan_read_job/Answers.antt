@@ -7,7 +7,7 @@ pub returns-then-number-ne0 : goal.returns-then-number-ne0
 returns-then-number-ne0 c =
     let job = c.read_job-answer in
     let h = c.hand_words-number.ensures in
-    let e = c.in-Read.is in
+    let e = c.in-Ok.is in
     record {
       answer = job.result;
       promise = job.ensures.answer;
@@ -19,7 +19,7 @@ pub returns-else-number-ne0 : goal.returns-else-number-ne0
 returns-else-number-ne0 c =
     let job = c.read_job-answer in
     let h = c.hand_words-number.ensures in
-    let e = c.in-Read.is in
+    let e = c.in-Ok.is in
     record {
       answer = job.result;
       promise = job.ensures.answer;
@@ -27,14 +27,14 @@ returns-else-number-ne0 c =
       tables = rw (e, told_whole h c.if-number-ne0.false) job.ensures.outputs;
     }
 
-pub returns-in-NotRead : goal.returns-in-NotRead
-returns-in-NotRead c =
+pub returns-in-Err : goal.returns-in-Err
+returns-in-Err c =
     let job = c.read_job-answer in
-    let e = c.in-NotRead.is in
+    let e = c.in-Err.is in
     record {
       answer = job.result;
       promise = job.ensures.answer;
-      handed = rw e (handed_none c.pack_refusal.ensures c.zero_u32.ensures);
+      handed = rw e (handed_none c.pack_refusal.ensures c.zero.ensures);
       tables = rw (
         e,
         none_fits (length c.args.counts.now),

@@ -10,7 +10,7 @@ returns-then-text-part c =
       part = c.string_text-part.result;
       promise = c.string_text-part.ensures;
       handed = handed_short (let z = c.if-text-part.true in omega arith)
-          c.pack_refusal.ensures c.zero_u8.ensures;
+          c.pack_refusal.ensures c.zero.ensures;
     }
 
 pub returns : goal.returns
@@ -19,5 +19,5 @@ returns c =
       part = c.string_text-part.result;
       promise = c.string_text-part.ensures;
       handed = handed_whole (let z = c.if-text-part.false in omega arith)
-          refl c.lay_u8.ensures;
+          refl c.lay.ensures;
     }

@@ -7,9 +7,9 @@ use Rattle.farshavan.proofs.hand_words.Goals as goal
 pub returns-then-out-run : goal.returns-then-out-run
 returns-then-out-run c =
     handed_short (let z = c.if-out-run.true in omega arith)
-    c.pack_refusal.ensures c.zero_u32.ensures
+    c.pack_refusal.ensures c.zero.ensures
 
 pub returns : goal.returns
 returns c =
     handed_whole (let z = c.if-out-run.false in omega arith)
-    refl c.lay_u32.ensures
+    refl c.lay.ensures
