@@ -111,6 +111,8 @@ def late_arrays(crate, body):
 # From `fn` to the `{` of the body stands the contract; a function ends at the first `}` in column 0 or of an impl.
 BEFORE = r"((?:[\w()\"]+ )*)"
 FUNCTION = re.compile(r"^( *)%sfn (\w+)((?:(?!^\1\}$).)*?)^\1\{$(.*?)^\1\}$" % BEFORE, re.M | re.S)
+# A trait's function without a body.
+DECLARED = re.compile(r"^ +fn (\w+)[^{\n]*(?:\n +(?:requires|ensures)\b[^\n]*)*;$", re.M)
 # A path into proofs/, by an import or, as a tactic takes it, in Rust's form. What a tactic looks at is part of a proof.
 OF_PROOFS = re.compile(r"(?<![\w.])Rattle\.(?:%s)\.proofs\b|\bproofs::" % "|".join(crates))
 TACTIC = re.compile(r"^ *#!?\[tactic\(.*?\)\]$", re.M | re.S)
@@ -119,7 +121,7 @@ for path in SOURCES:
     crate = path.split("/")[1]
     found = [m for m in FUNCTION.finditer(text) if m.group(3) != "main"]
     names = [n for _, n in re.findall(rf"^ *{BEFORE}fn (\w+)", text, re.M) if n != "main"]
-    hold(len(found) == len(names), f"{path}: every function is recognized")
+    hold(len(found) + len(DECLARED.findall(text)) == len(names), f"{path}: every function is recognized")
     for m in found:
         name, contract, body = m.group(3), m.group(4), m.group(5)
         place = f"{crate}::{name}"

@@ -2,8 +2,8 @@
 """Writes docs/FUNCTIONS.md: each public function with its promise, the definitions that it cites, its wrong answers.
 
 The promise is the comment at the function (crates/*/src), the definitions are those that its contract names, the wrong
-answers are the edits of crates/*/must-fail. A method has the name of its type in front, and a module's that of the file. With `--check` nothing is written, and the exit status is 1 where the
-file is another than would be written.
+answers are the edits of crates/*/must-fail. A method has the name of its type in front, one of a module the file's.
+With `--check` nothing is written, and the exit status is 1 where the file is another than would be written.
 """
 import glob
 import os
@@ -70,7 +70,8 @@ def public(crate):
         here = [(module + name, comment, signature) for comment, name, signature in FUNCTION.findall(text)]
         for block in sources.BLOCK.finditer(text):
             owner = module + sources.owner(block.group(2))
-            here += [(f"{owner}::{name}", comment, signature) for comment, name, signature in METHOD.findall(block.group(3))]
+            methods = METHOD.findall(block.group(3))
+            here += [(f"{owner}::{name}", comment, signature) for comment, name, signature in methods]
         found += [{"name": n, "promise": words(comment), "cites": cited(text, s)} for n, comment, s in here]
     return found
 

@@ -84,7 +84,8 @@ module _ (strings : ℕ) (s : List ℕ) (c d : ℕ) where
         go (yes z) = inl z
         go (no z) = let a = h.0 in let b = h.1 in inr (omega arith, omega arith)
 
-    pub least_test_lem : RowsRight strings s → least_test ≡ true → LeastCommon s c d (Some (record { namespace = u; local = l }))
+    pub least_test_lem : RowsRight strings s → least_test ≡ true
+        → LeastCommon s c d (Some (record { namespace = u; local = l }))
     unfolding least_test
     least_test_lem right pass = (
       record {

@@ -89,9 +89,11 @@ module _ (T : StringTable) (s : List ℕ) where
       (and_right (strings_test T) (rows_test strings s) (and_left tables_test (places_test s && path_tests) pass))
 
   -- codes 1 to 5 go on
-  goes_placed : {next : Result Unit Refusal → Type 0} {v : Result Unit Refusal} → placed ≡ true → Tries code.Content (SequenceFault s) next v
+  goes_placed : {next : Result Unit Refusal → Type 0} {v : Result Unit Refusal} → placed ≡ true
+      → Tries code.Content (SequenceFault s) next v
       → Tries code.Strings (StringFault T) (Tries code.Rows (RowFault strings s)
-      (Tries code.Places (PlaceFault s) (Tries code.Names (NameFault s) (Tries code.Paths (PathFault s) (Tries code.Content (SequenceFault s) next))))) v
+      (Tries code.Places (PlaceFault s) (Tries code.Names (NameFault s) (Tries code.Paths (PathFault s)
+      (Tries code.Content (SequenceFault s) next))))) v
   goes_placed pass rest =
       let right = rows_pass pass in
       let places = and_right tables_test (places_test s && path_tests) pass in
@@ -163,7 +165,8 @@ module _ (T : StringTable) (s : List ℕ) where
       goes_placed (placed_7 (rows_of s) a) (goes_on (none_6 (rows_of s) a) (goes_on (none_7 (rows_of s) pass)
       (goes_on (λ r f. clear_8 (rows_of s) pass r (interleave_row (right_size (right_8 (rows_of s) pass)) f) f) refl)))
 
-  refused_6 : (r : ℕ) → (sequenced r && sequence_test s r) ≡ true → SchemaRefusal T s Passes (Err (refusal_at code.Content r))
+  refused_6 : (r : ℕ) → (sequenced r && sequence_test s r) ≡ true
+      → SchemaRefusal T s Passes (Err (refusal_at code.Content r))
   refused_6 r e =
       goes_placed (placed_of r pass) (refused r (go (sequence_test s r) (sequence_test_lem s
       (right_size (rows_pass (placed_of r pass))) r) (and_right (sequenced r) (sequence_test s r) e)) (clear_6 r pass))
@@ -175,13 +178,15 @@ module _ (T : StringTable) (s : List ℕ) where
       go true d i = d
       go false d i = absurd (false≢true i)
 
-  refused_7 : (r : ℕ) → (attributed r && duplicate_test strings s r) ≡ true → SchemaRefusal T s Passes (Err (refusal_at code.Attributes r))
+  refused_7 : (r : ℕ) → (attributed r && duplicate_test strings s r) ≡ true
+      → SchemaRefusal T s Passes (Err (refusal_at code.Attributes r))
   refused_7 r e =
       let pass = and_left (attributed r) (duplicate_test strings s r) e in
       goes_placed (placed_7 r pass) (goes_on (none_6 r pass) (refused r
       (attribute_fault strings s r (and_right (attributed r) (duplicate_test strings s r) e)) (clear_7 r pass)))
 
-  refused_8 : (r : ℕ) → (interleaved r && interleave_test strings s r) ≡ true → SchemaRefusal T s Passes (Err (refusal_at code.Interleaves r))
+  refused_8 : (r : ℕ) → (interleaved r && interleave_test strings s r) ≡ true
+      → SchemaRefusal T s Passes (Err (refusal_at code.Interleaves r))
   refused_8 r e =
       let pass = and_left (interleaved r) (interleave_test strings s r) e in
       let a = attributed_of r pass in

@@ -1,7 +1,8 @@
 -- How an answer is handed to C, as one number: the code of a refusal in its upper half and the place in the lower, or
 -- with code 0 the answer itself (FORMAT, "Calls and outputs"). What the output of a call is too short for is refused by
 -- 12 at 0, and then every output is zeros.
-use Rattle.std.specs.Prelude.{ℕ, ◌+◌, ◌*◌, ◌≡◌, Bool, cond, List, [], ◌∷◌, leb, length, Result, Ok, Err, Option, Some, None}
+use Rattle.std.specs.Prelude.{ℕ, ◌+◌, ◌*◌, ◌≡◌, Bool, cond, List, [], ◌∷◌, leb, length}
+use Rattle.std.specs.Prelude.{Result, Ok, Err, Option, Some, None}
 use Rattle.std.specs.Borrow.{Bor}
 use Rattle.tables.specs.Tables.{StringTable, Tables}
 use Rattle.tables.specs.Outputs.{laid, zeros}

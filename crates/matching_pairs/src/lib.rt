@@ -58,7 +58,8 @@ fn content_fits(
         || weak && all_match(schema, marks, named, taken, single, n, a, 0, p, work)
 }
 
-// Whether element e and definition d are a pair. The words of its pattern are wanted only where its class has the name of e.
+// Whether element e and definition d are a pair. The words of its pattern are wanted only where its class has the name
+// of e.
 fn pair_at(
     schema: &[u32],
     instance: &[u32],

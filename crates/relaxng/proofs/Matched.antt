@@ -96,7 +96,8 @@ module _ {J : Tables} where
       )
 
   -- tables that pass
-  pub tables_pass : {next : Result Unit Refusal → Type 0} {v : Result Unit Refusal} → v ≡ Ok tt → InstanceRefusal J next v → TablesPass J
+  pub tables_pass : {next : Result Unit Refusal → Type 0} {v : Result Unit Refusal} → v ≡ Ok tt
+      → InstanceRefusal J next v → TablesPass J
   tables_pass {next} e r = (tables_of (subst (InstanceRefusal J next) e r)).0
 
   -- ---- code 12 for the work buffer
@@ -129,7 +130,8 @@ module _ {J : Tables} where
       })
 
       pub whole_verdict : v ≡ Ok tt → (valid : Bool) → Decides (Valid J) valid → GivesVerdict J work after (Ok valid)
-      whole_verdict e true d = record { refusal = subst (WorkRefusal J work) e checked; answer = (refl, d); cleared = z }
+      whole_verdict e true d =
+          record { refusal = subst (WorkRefusal J work) e checked; answer = (refl, d); cleared = z }
       whole_verdict e false d =
           record { refusal = subst (WorkRefusal J work) e checked; answer = λ y. d y.1; cleared = z }
 
@@ -166,7 +168,8 @@ module _ {J : Tables} (room work : ℕ) {v : Result Unit Refusal} (r : WorkRefus
   pub whole_list : v ≡ Ok tt → (x : Result Matches TooShort) → ListAnswer J room list x
       → ListsMatches J room work list after (match_answer x)
   whole_list e (Ok m) y = record {
-    refusal = instance_go e r (λ q. goes_on (λ i. ⊎_elim (work_enough work e r i) (no_shorter y.all y.says.fit i)) refl);
+    refusal =
+        instance_go e r (λ q. goes_on (λ i. ⊎_elim (work_enough work e r i) (no_shorter y.all y.says.fit i)) refl);
     matched = λ q. record { pairs = y.pairs; all = y.all; written = y.says };
     zeroed = λ n. absurd (n refl);
     cleared = cleared;

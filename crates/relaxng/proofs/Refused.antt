@@ -20,7 +20,8 @@ use Rattle.schema_classes.specs.Least.{LeastCommon}
 use Rattle.schema_classes.specs.declared.Member.{Member}
 use Rattle.schema_classes.specs.declared.Member.TheVariants.{Yes, No}
 use Rattle.schema_classes.specs.declared.Name.{Name}
-use Rattle.relaxng.specs.Promises.{SchemaRefusal, NotClass, NoClass, not_first, not_second, NameInClass, LeastCommonName}
+use Rattle.relaxng.specs.Promises.{SchemaRefusal, NotClass, NoClass, not_first, not_second}
+use Rattle.relaxng.specs.Promises.{NameInClass, LeastCommonName}
 
 module _ {T : StringTable} {s : List ℕ} {next : Result Unit Refusal → Type 0} where
   -- a refusal by a code up to 8 stands whatever comes after
@@ -94,7 +95,8 @@ module _ {T : StringTable} {s : List ℕ} {v : Result Unit Refusal} (checked : S
     refusal : {next : Result Unit Refusal → Type 0} → SchemaRefusal T s next (Err r)
     refusal {next} = subst (SchemaRefusal T s next) e (schema_refused e checked)
 
-    pub refused_member : {class u l : ℕ} {w : Result Member Refusal} → IsErrAnd w (λ y. y ≡ r) → NameInClass T s class u l w
+    pub refused_member : {class u l : ℕ} {w : Result Member Refusal} → IsErrAnd w (λ y. y ≡ r)
+        → NameInClass T s class u l w
     refused_member {w = w} x = rw (exit w x) (record {
       refusal = refusal;
       answer = no_yes _ (number_positive r.code);

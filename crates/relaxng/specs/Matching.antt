@@ -20,7 +20,8 @@ use Rattle.relaxng.specs.Promises.{SchemaRefusal}
 abbrev pub InstanceRefusal : Tables → (Result Unit Refusal → Type 0) → Result Unit Refusal → Type 0
 InstanceRefusal J next =
     SchemaRefusal J.strings J.schema
-    (Tries code.Nodes (NodeFault (instance_strings J.strings) J.instance) (Tries code.Width (WidthFault J.instance) next))
+    (Tries code.Nodes (NodeFault (instance_strings J.strings) J.instance)
+    (Tries code.Width (WidthFault J.instance) next))
 
 -- codes 1 to 10, then 12 for so many bytes of work
 abbrev pub WorkRefusal : (J : Tables) (work : ℕ) → Result Unit Refusal → Type 0

@@ -28,13 +28,15 @@ pub data NoClass (s : List ℕ) (first second place : ℕ) : Type 0 where
 
 -- yes exactly where nothing is refused and the name is in the class, with the row of the class that says so; the row 0
 -- beside a refusal
-pub record NameInClass (T : StringTable) (s : List ℕ) (class namespace local : ℕ) (r : Result Member Refusal) : Type 0 where
+pub record NameInClass (T : StringTable) (s : List ℕ) (class namespace local : ℕ) (r : Result Member Refusal)
+    : Type 0 where
   pub refusal : SchemaRefusal T s (Tries code.NoClass (NotClass s class) Passes) (verdict_of r)
   pub answer : is_yes r ≡ (eqb (code_of r) 0 && in_class s namespace local class)
   pub row : code_of r ≡ 0 → WhichRow s namespace local class (is_yes r) (row_of r)
   pub without_row : ¬ (code_of r ≡ 0) → row_of r ≡ 0
 
 -- the least name that both classes hold or none, where nothing is refused
-pub record LeastCommonName (T : StringTable) (s : List ℕ) (first second : ℕ) (r : Result (Option Name) Refusal) : Type 0 where
+pub record LeastCommonName (T : StringTable) (s : List ℕ) (first second : ℕ) (r : Result (Option Name) Refusal)
+    : Type 0 where
   pub refusal : SchemaRefusal T s (Tries code.NoClass (NoClass s first second) Passes) (verdict_of r)
   pub answer : code_of r ≡ 0 → least.LeastCommon s first second (found_name r)

@@ -24,12 +24,14 @@ pub record LongEnough (J : Tables) (room : Room) : Type 0 where
   pub for_instance : length J.instance ≤ room.instance
 
 -- what read_job promises of a file: its answer and its four outputs
-pub record ReadsJob (file : List ℕ) (room : Room) (bytes ends schema instance : List ℕ) (r : Result Counts Refusal) : Type 0 where
+pub record ReadsJob (file : List ℕ) (room : Room) (bytes ends schema instance : List ℕ) (r : Result Counts Refusal)
+    : Type 0 where
   pub answer : JobAnswer (read_job file) room r
   pub outputs : OutputsHold (given (read_job file) room) room bytes ends schema instance
 
 -- the answer gives the sizes of the tables of J, and each output holds its table to its end
-pub record ReadsBack (J : Tables) (room : Room) (bytes ends schema instance : List ℕ) (r : Result Counts Refusal) : Type 0 where
+pub record ReadsBack (J : Tables) (room : Room) (bytes ends schema instance : List ℕ) (r : Result Counts Refusal)
+    : Type 0 where
   pub answer : r ≡ Ok (counts_in J)
   pub outputs : OutputsHold J room bytes ends schema instance
 

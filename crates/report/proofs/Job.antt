@@ -117,7 +117,8 @@ pairs_fit {r = r} {m = m} lists e =
     omega (arith, c, w.fit, w.counted)
 
 -- the list that is lent has so many words, and the work buffer so many bytes
-pub lent_buffers : {J : Tables} {list after : List ℕ} {r : Result Matches Refusal} → ListsMatches J (length (zeros list_room))
+pub lent_buffers : {J : Tables} {list after : List ℕ} {r : Result Matches Refusal}
+    → ListsMatches J (length (zeros list_room))
     (length (zeros work_room)) list after r → ListsMatches J list_room work_room list after r
 lent_buffers {J} {list} {after} {r} l =
     subst (λ (work : ℕ). ListsMatches J list_room work list after r) (length-replicate {A = ℕ} work_room 0)

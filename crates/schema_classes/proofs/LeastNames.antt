@@ -87,7 +87,8 @@ ns_namespace s c rows {a} e k u l h = eqb-true u a (and_both (eqb u a) (not (upt
         ∙ (and_both (ltb 0 l) (holds s u l c) h).1
 
 module _ (s : List ℕ) (c d a : ℕ) where
-  pub one_least : ((u l : ℕ) → Common s c d u l → u ≡ a) → (r : Option Name) → LeastBeside s c d a r → LeastCommon s c d r
+  pub one_least : ((u l : ℕ) → Common s c d u l → u ≡ a) → (r : Option Name) → LeastBeside s c d a r
+      → LeastCommon s c d r
   one_least one (Some n) (e, h, clear) = (
     rw e h,
     λ v k x. inr (e ∙ sym (one v k x), not_less (λ i. clear k i (rw (one v k x) at x))),

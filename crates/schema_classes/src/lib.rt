@@ -36,8 +36,8 @@ enum Part {
     LocalBeside(u32),
 }
 
-// None, as a bound above every number of a name: the least of some numbers and none is then the least by <, and no match
-// stands at each.
+// None, as a bound above every number of a name: the least of some numbers and none is then the least by <, and no
+// match stands at each.
 const NO_NUMBER: u64 = 4294967296;
 
 // What an anyName, or an nsName of the name's namespace, at a row says, by what its except says. A name that the except

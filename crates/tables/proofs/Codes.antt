@@ -7,8 +7,8 @@ use Rattle.std.proofs.lemmas.Result.{err_from_is_err_and}
 use Rattle.tables.specs.Checks.{Finds}
 use Rattle.tables.specs.Codes.{number_of, refused_by, Tries, refused, goes_on, Passes}
 use Rattle.tables.specs.declared.refusals.Code.{Code}
-use Rattle.tables.specs.declared.refusals.Code.TheVariants.{Strings, Rows, Places, Names, Paths, Content, Attributes, Interleaves}
-use Rattle.tables.specs.declared.refusals.Code.TheVariants.{Nodes, Width, NoClass, Room, Line}
+use Rattle.tables.specs.declared.refusals.Code.TheVariants.{Strings, Rows, Places, Names, Paths, Content, Attributes}
+use Rattle.tables.specs.declared.refusals.Code.TheVariants.{Interleaves, Nodes, Width, NoClass, Room, Line}
 use native.Mathlib.Omega.{arith}
 use Rattle.tables.specs.declared.refusals.Refusal.{Refusal}
 

@@ -4,8 +4,8 @@ use Rattle.std.specs.Prelude.{ℕ, ◌≡◌, Result, Ok, Err}
 use Rattle.tables.specs.Answers.{Clear}
 use Rattle.tables.specs.declared.refusals.Code.{Code}
 use Rattle.tables.specs.declared.refusals.Refusal.{Refusal}
-use Rattle.tables.specs.declared.refusals.Code.TheVariants.{Strings, Rows, Places, Names, Paths, Content, Attributes, Interleaves}
-use Rattle.tables.specs.declared.refusals.Code.TheVariants.{Nodes, Width, NoClass, Room, Line}
+use Rattle.tables.specs.declared.refusals.Code.TheVariants.{Strings, Rows, Places, Names, Paths, Content, Attributes}
+use Rattle.tables.specs.declared.refusals.Code.TheVariants.{Interleaves, Nodes, Width, NoClass, Room, Line}
 
 -- FORMAT, "Codes and places"
 abbrev pub number_of : Code → ℕ

@@ -18,7 +18,8 @@ first_fall-requires c = few_strings (found_none _ c.check_front.ensures c.in_ok-
 
 pub returns-in_err-first_fall : goal.returns-in_err-first_fall
 returns-in_err-first_fall c =
-    found_first _ _ c.first_fall.ensures c.in_err-first_fall.was c.from_residual-in_err-first_fall.ensures.1 (λ f clear. (
+    found_first _ _ c.first_fall.ensures c.in_err-first_fall.was
+    c.from_residual-in_err-first_fall.ensures.1 (λ f clear. (
       end_falls f,
       ends_right (found_none _ c.check_front.ensures
           c.in_ok-check_front.was) _ clear (λ k h e. absurd (omega (arith, f.0))),
