@@ -13,18 +13,18 @@ use Rattle.strings.specs.Strings.{instance_strings}
 use Rattle.tables.specs.Answers.{Decides}
 use Rattle.tables.specs.Checks.{Finds}
 use Rattle.tables.specs.Outputs.{zeros}
-use Rattle.tables.specs.Codes.{refused_by, Tries, refused, goes_on, Passes, code_of, verdict_of}
+use Rattle.tables.specs.Codes.{refused_by, Tries, refused, goes_on, Passes}
 use Rattle.tables.specs.declared.refusals.Code.TheVariants as code
 use Rattle.tables.specs.declared.refusals.Refusal.{Refusal}
-use Rattle.tables.proofs.Codes.{tries_map, tries_go, stops, on, last_code, number_positive, exit, ok_err}
+use Rattle.tables.proofs.Codes.{tries_map, tries_go, stops, on, last_code, exit, ok_err}
 use Rattle.instance.specs.Nodes.{nodes_of}
-use Rattle.instance.specs.NodeRule.{max_nodes, NodeFault, NodesRight, bad_size}
+use Rattle.instance.specs.NodeRule.{max_nodes, NodeFault, bad_size}
 use Rattle.instance.specs.Width.{WidthFault}
 use Rattle.instance.proofs.Size.{few_nodes}
 use Rattle.matching_rules.specs.Job.{Valid}
 use Rattle.matching_rules.proofs.Uniqueness.{unique}
 use Rattle.matching_pairs.specs.Pairs.{TablesPass}
-use Rattle.matching_list.specs.MatchList.{MatchList, ListWritten, ListAnswer}
+use Rattle.matching_list.specs.MatchList.{MatchList, ListAnswer}
 use Rattle.matching_list.specs.declared.Matches.{Matches}
 use Rattle.matching_list.specs.declared.TooShort.{TooShort}
 use Rattle.relaxng.specs.Promises.{SchemaRefusal}

@@ -1,12 +1,12 @@
 -- What follows from the verdict on a schema for the calls that go on from there.
-use mathlib.Core.Path.{◌≡◌, refl, sym, ◌∙◌, ap, subst}
+use mathlib.Core.Path.{◌≡◌, refl, sym, ◌∙◌, subst}
 use mathlib.Core.Bool.{Bool, true, false, ◌&&◌, true≢false}
 use mathlib.Core.List.{List}
 use Prim.Native.Nat.{ℕ, ◌<◌}
 use native.Mathlib.Omega.{arith}
 use lib.Dec.{eqb}
 use borrow.Author.Tests.{ne_eqb}
-use Rattle.std.specs.Prelude.{Result, Ok, Err, IsErrAnd, Option, None}
+use Rattle.std.specs.Prelude.{Result, Ok, Err, IsErrAnd, Option}
 use Rattle.tables.specs.Tables.{StringTable}
 use Rattle.strings.specs.Strings.{schema_strings}
 use Rattle.tables.specs.Codes.{number_of, refusal_at, Tries, refused, goes_on, Passes}
@@ -16,7 +16,6 @@ use Rattle.tables.proofs.Codes.{tries_map, tries_go, number_positive, exit, ok_e
 use Rattle.schema.specs.Rows.{sort_of, is_class}
 use Rattle.schema.specs.RowRule.{RowsRight}
 use Rattle.schema_classes.specs.WhichRow.{Judged}
-use Rattle.schema_classes.specs.Least.{LeastCommon}
 use Rattle.schema_classes.specs.declared.Member.{Member}
 use Rattle.schema_classes.specs.declared.Member.TheVariants.{Yes, No}
 use Rattle.schema_classes.specs.declared.Name.{Name}

@@ -17,7 +17,7 @@ use Rattle.job.proofs.Decimals.{lt_or_ge}
 use Rattle.matching_rules.specs.Listed.{pair_words}
 use Rattle.matching_rules.proofs.Uniqueness.{unique}
 use Rattle.matching_list.specs.declared.Matches.{Matches}
-use Rattle.relaxng.specs.Answers.{pair_count, is_matched}
+use Rattle.relaxng.specs.Answers.{pair_count}
 use Rattle.relaxng.specs.Matching.{Matched, ListsMatches}
 use Rattle.tables.proofs.Codes.{ok_err, err_same}
 use Rattle.relaxng.proofs.Refused.{no_code}

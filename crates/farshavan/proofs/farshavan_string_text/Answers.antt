@@ -1,7 +1,8 @@
 -- By whether the text fits.
-use mathlib.Core.Path.{refl}
+use mathlib.Core.Path.{refl, ◌∙◌, ap}
 use native.Mathlib.Omega.{arith}
 use Rattle.farshavan.proofs.Handing.{handed_whole, handed_short}
+use Rattle.farshavan.specs.Packed.{packed_refusal}
 use Rattle.farshavan.proofs.farshavan_string_text.Goals as goal
 
 pub returns-then-text-part : goal.returns-then-text-part
@@ -10,7 +11,7 @@ returns-then-text-part c =
       part = c.string_text-part.result;
       promise = c.string_text-part.ensures;
       handed = handed_short (let z = c.if-text-part.true in omega arith)
-          c.pack_refusal.ensures c.zero.ensures;
+          (c.pack_refusal.ensures ∙ ap packed_refusal c.at.ensures) c.zero.ensures;
     }
 
 pub returns : goal.returns

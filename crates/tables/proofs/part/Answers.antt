@@ -23,11 +23,11 @@ returns c =
     let a = c.args in
     elim c.else-from-to.branch [
       | else-from-to-via-then-from-to+else-from-bytes w ↦ record {
-          holds = sym (between_beyond a.bytes.now a.from a.to (le_of_lt w.if-from-bytes.false));
-          lies = rw (beyond a.bytes.now a.from a.to w.if-from-to.true w.if-from-bytes.false) refl;
-        }
+        holds = sym (between_beyond a.bytes.now a.from a.to (le_of_lt w.if-from-bytes.false));
+        lies = rw (beyond a.bytes.now a.from a.to w.if-from-to.true w.if-from-bytes.false) refl;
+      }
       | else-from-to-via-else-from-to w ↦ record {
-          holds = sym (between_reversed a.bytes.now a.from a.to (le_of_lt w.if-from-to.false));
-          lies = rw (reversed a.bytes.now a.from a.to w.if-from-to.false) refl;
-        }
+        holds = sym (between_reversed a.bytes.now a.from a.to (le_of_lt w.if-from-to.false));
+        lies = rw (reversed a.bytes.now a.from a.to w.if-from-to.false) refl;
+      }
     ]
