@@ -27,7 +27,7 @@ hold(timed == crates, f"docs/CHECK-TIMES.md has the crates of crates.txt in thei
 # The C function of a call has its name.
 calls = [one["name"][len("farshavan_") :] for one in functions.public("farshavan")]
 for call in calls:
-    hold(re.search(rf"^### `\w+::{call}`$", read("docs/PROMISES.md"), re.M), f"{call} in docs/PROMISES.md")
+    hold(re.search(rf"^### `\w+(?:::\w+)*::{call}`$", read("docs/PROMISES.md"), re.M), f"{call} in docs/PROMISES.md")
     hold(re.search(rf"^uint64_t farshavan_{call}\(", read("include/farshavan.h"), re.M), f"{call} in the header")
 
 # What a document names stands where it says: a file, and the definitions and laws that it says are of a file or folder.

@@ -9,7 +9,8 @@ import re
 
 ATTRIBUTES = r"(?:^ *#\[(?:(?!\]$).)*\]\n)*"
 FUNCTION = re.compile(ATTRIBUTES + r"^(?:pub )?(?:extern \"C\" )?fn (\w+).*?^\}$", re.M | re.S)
-METHOD = re.compile(ATTRIBUTES + r"^    (?:pub )?fn (\w+)(?:(?!^    \}$|;\n).)*^    \}$", re.M | re.S)
+# The body begins with the first brace that ends a line; a method of a trait that has none ends before.
+METHOD = re.compile(ATTRIBUTES + r"^    (?:pub )?fn (\w+)(?:(?!;\n|\{\n).)*\{\n.*?^    \}$", re.M | re.S)
 BLOCK = re.compile(r"^(?:pub )?(impl|trait)\b([^{\n]*)\{\n(.*?)^\}$", re.M | re.S)
 
 
