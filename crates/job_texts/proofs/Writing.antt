@@ -5,7 +5,7 @@ use Prim.Native.Nat.{ℕ, ◌+◌, ◌-◌, ◌*◌, ◌/◌, ◌%◌, ◌≤◌
 use native.Mathlib.Omega.{arith}
 use native.Mathlib.Nat.{zero-add, add-zero, le_trans, min-le_right}
 use native.Mathlib.Numerals.{add-one}
-use lib.ListN.{length, take, drop, get_or, length-append, length-take, length-drop, length-replicate}
+use lib.ListN.{length, take, drop, get_or, set, length-append, length-take, length-drop, length-replicate}
 use lib.Seq.{sets, length-sets, take-suc}
 use Rattle.tables.specs.Outputs.{zeros, laid}
 use Rattle.tables.proofs.Stores.{sets_append, sets_zeros}
@@ -19,19 +19,25 @@ use Rattle.job_texts.specs.declared.Writer.{Writer}
 pub puts_none : (w : Writer) → Puts w [] w
 puts_none w = record { wrote = record { holds = refl; moves = sym (add-zero w.at) }; same = refl }
 
-pub puts_more : {w m e : Writer} {a b : List ℕ} → Puts w a m → Puts m b e → Puts w (a ++ b) e
-puts_more {w} {a = a} {b} p q = record {
-  wrote = record {
-    holds = q.wrote.holds
-        ∙ ap₂ (λ l i. sets l i b) p.wrote.holds p.wrote.moves
-        ∙ sets_append w.out.now w.at a b;
-    moves = q.wrote.moves ∙ let e = p.wrote.moves in let f = length-append a b in omega arith;
-  };
-  same = q.same ∙ p.same;
+pub wrote_byte : {out : List ℕ} {at b : ℕ} {end : List ℕ} → end ≡ set out at b → Wrote out at (b ∷ []) end (at + 1)
+wrote_byte e = record { holds = e; moves = refl }
+
+pub wrote_more : {out : List ℕ} {at : ℕ} {a b : List ℕ} {mid : List ℕ} {p : ℕ} {end : List ℕ} {q : ℕ}
+    → Wrote out at a mid p → Wrote mid p b end q → Wrote out at (a ++ b) end q
+wrote_more {out} {at} {a} {b} w v = record {
+  holds = v.holds ∙ ap₂ (λ l i. sets l i b) w.holds w.moves ∙ sets_append out at a b;
+  moves = v.moves ∙ let e = w.moves in let f = length-append a b in omega arith;
 }
 
+pub wrote_as : {out : List ℕ} {at : ℕ} {a b : List ℕ} {end : List ℕ} {q : ℕ}
+    → a ≡ b → Wrote out at a end q → Wrote out at b end q
+wrote_as e w = rw (← e) w
+
+pub puts_more : {w m e : Writer} {a b : List ℕ} → Puts w a m → Puts m b e → Puts w (a ++ b) e
+puts_more p q = record { wrote = wrote_more p.wrote q.wrote; same = q.same ∙ p.same }
+
 pub puts_as : {w e : Writer} {a b : List ℕ} → a ≡ b → Puts w a e → Puts w b e
-puts_as h p = rw (← h) p
+puts_as h p = record { wrote = wrote_as h p.wrote; same = p.same }
 
 pub wrote_length : {out : List ℕ} {at : ℕ} {a : List ℕ} {end : List ℕ} {q : ℕ}
     → Wrote out at a end q → length end ≡ length out

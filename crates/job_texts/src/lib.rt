@@ -19,6 +19,21 @@ fn hex_digit(n: u8) -> u8
     if n < 10 { 48 + n } else { 87 + n }
 }
 
+// A number in decimal digits from a position on; the position after them. A function and no method of the writer: where
+// a method calls itself, the compiler keeps the writer in memory, and its position after each byte.
+fn put_number(out: &mut [u8], at: usize, n: u32) -> usize
+    requires { at + 10 < far }
+    ensures { Wrote out.old at (decimal n) out.new result }
+{
+    if n < 10 {
+        tables::put(out, at, (48 + n) as u8);
+        return at + 1;
+    }
+    let to = put_number(out, at, n / 10);
+    tables::put(out, to, (48 + n % 10) as u8);
+    to + 1
+}
+
 // The line of the verdict.
 fn verdict_line(valid: bool) -> &'static [u8]
     ensures { result.now ≡ valid_line valid ++ line_feed ∷ [] }
@@ -58,10 +73,7 @@ impl<'a> Writer<'a> {
         requires { self.old.at + 10 < far }
         ensures { Puts self.old (decimal n) self.new }
     {
-        if 10 <= n {
-            self.number(n / 10);
-        }
-        self.byte((48 + n % 10) as u8);
+        self.at = put_number(self.out, self.at, n);
     }
 
     // A word: `-` for the largest.
