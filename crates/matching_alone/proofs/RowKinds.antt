@@ -18,6 +18,11 @@ use Rattle.matching_alone.proofs.Entries.{Rest, falls, string_text, string_data}
 use Rattle.matching_alone.proofs.Entries.{string_value, string_same, string_list, string_one_or_more}
 use Rattle.matching_alone.proofs.Entries.{string_choice, string_group, string_interleave, string_rest}
 
+-- data without an except
+pub data_all : {before after : List ℕ} {p n except : ℕ} → except ≡ kind.no_row
+    → RowOf (λ k v. v ≡ 1) before after p n → RowOf (DataEntry before except) before after p n
+data_all z = row_map (λ k v h e. record { all = λ y. e; but = λ f. absurd (f z) })
+
 -- a row that is filled by its kind
 module _ (T : StringTable) (s before nothing : List ℕ) {after : List ℕ} (p : ℕ) where
   made : {f : ℕ → ℕ → Type 0} → ((k v : ℕ) → f k v → StringAt T s before nothing p k v)
