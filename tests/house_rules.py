@@ -3,10 +3,10 @@
 
 A test file that tests/parts.txt does not list, a dependency in crates.txt that is not direct, a call of a user with a
 `requires`, a public function without a comment, without two wrong answers or with a promise that holds under a premise,
-a function without an `ensures`, a long function or proof file, a return before a large array, a kind of a schema row as
-a bare number, a definition or a contract that rests on a proof, a wrong answer with the label of another or for no
-public function, a hole or an axiom in a proof, a name of the library with another meaning, a name that two definitions
-have, a line wider than 120 columns, a contract wider than 160.
+a function without an `ensures`, a long function or proof file, a return or a `?` before a large array, a kind of a
+schema row as a bare number, a definition or a contract that rests on a proof, a wrong answer with the label of another
+or for no public function, a hole or an axiom in a proof, a name of the library with another meaning, a name that two
+definitions have, a line wider than 120 columns, a contract wider than 160.
 """
 import glob
 import os
@@ -68,11 +68,14 @@ FUNCTIONS = "length take drop get_or slice_index slice_index_or set replicate no
 CONSTRUCTORS = set("true false none some None Some".split())
 LIBRARY = CONSTRUCTORS | set(f"{OPERATORS} {FUNCTIONS} List Bool Option ℕ".split())
 
-# A kind of a schema row by its number: in an arm of a `match`, or in a comparison.
+# A kind of a schema row by its number: in an arm of a `match`, in a `matches!`, or in a comparison.
 KIND = r"(?:schema::kind\([^{}]*?\)|kind)"
 KIND_MATCH = re.compile(r"^( *)[^\n]*\bmatch %s \{$(.*?)^\1\}" % KIND, re.M | re.S)
 KIND_ARM = re.compile(r"^ *\d[\d_]*(?:u32)?(?: *(?:\.\.=?|\|) *[\w:]+)* *=>", re.M)
-KIND_TEST = re.compile(r"\b%s *(?:[=!<>]=|[<>]) *\d|\b\d+(?:u32)? *(?:[=!<>]=|[<>]) *%s\b" % (KIND, KIND))
+KIND_TEST = re.compile(
+    r"\b%s *(?:[=!<>]=|[<>]) *\d|\b\d+(?:u32)? *(?:[=!<>]=|[<>]) *%s\b" % (KIND, KIND)
+    + r"|matches!\(\s*(?:schema::kind\([^(){}]*\)|kind),(?:(?!\bif\b)[^()])*?\b\d\w*"
+)
 
 
 def numbered_kinds(code):
@@ -81,8 +84,14 @@ def numbered_kinds(code):
     return [found.strip() for found in arms + KIND_TEST.findall(code)]
 
 
-# An array of a function over 4 KiB stands before each `return` of it: the compiler may otherwise put the return before
-# the prologue and lose a value. tests/stack_probes.py looks whether it did, in what it has put together too.
+for wrong in ["match kind {\n    8 => a,\n}", "kind == 8", "matches!(kind, schema::REF | 7)", "matches!(kind, 7..=9)"]:
+    hold(numbered_kinds(wrong), f"a kind as a bare number is seen in {wrong!r}")
+for right in ["f(matches!(schema::kind(s, p), schema::REF), 5)", "matches!(kind, schema::DATA if b == 0)"]:
+    hold(not numbered_kinds(right), f"no kind is a bare number in {right!r}")
+
+# An array of a function over 4 KiB stands before each `return` and each `?` of it: the compiler may otherwise put the
+# return before the prologue and lose a value. tests/stack_probes.py looks whether it did, in what it has put together
+# too.
 CONSTANT = re.compile(r"^(?:pub )?const (\w+): \w+ = (\d+);", re.M)
 SOURCES = sorted(glob.glob("crates/*/src/*.rt"))
 CONSTANTS = {(path.split("/")[1], name): value for path in SOURCES for name, value in CONSTANT.findall(read(path))}
@@ -101,17 +110,21 @@ def size(crate, array):
 
 
 def late_arrays(crate, body):
-    """The arrays over 4 KiB that stand behind a `return`."""
+    """The arrays over 4 KiB that stand behind a `return` or a `?`."""
     code = re.sub(r"//.*", "", body)
-    first = re.search(r"\breturn\b", code)
+    first = re.search(r"\breturn\b|\?", code)
     arrays = [] if first is None else ARRAY.finditer(code, first.end())
     return [a.group(0) for a in arrays if size(crate, a) > 4096]
 
 
+for early in ["if n == 0 {\n    return;\n}", "let n = check(x)?;"]:
+    hold(late_arrays("tables", f"{early}\nlet mut wide = [0u64; 513];"), f"an array behind {early!r} is seen")
+    hold(not late_arrays("tables", f"let mut wide = [0u64; 513];\n{early}"), f"an array before {early!r} is right")
+
 # From `fn` to the `{` of the body stands the contract; a function ends at the first `}` in column 0 or of an impl.
 BEFORE = r"((?:[\w()\"]+ )*)"
 FUNCTION = re.compile(r"^( *)%sfn (\w+)((?:(?!^\1\}$).)*?)^\1\{$(.*?)^\1\}$" % BEFORE, re.M | re.S)
-# A trait's function without a body.
+# A trait's function without a body, which is held to what a public one is.
 DECLARED = re.compile(r"^ +fn (\w+)[^{\n]*(?:\n +(?:requires|ensures)\b[^\n]*)*;$", re.M)
 # A path into proofs/, by an import or, as a tactic takes it, in Rust's form. What a tactic looks at is part of a proof.
 OF_PROOFS = re.compile(r"(?<![\w.])Rattle\.(?:%s)\.proofs\b|\bproofs::" % "|".join(crates))
@@ -119,21 +132,21 @@ TACTIC = re.compile(r"^ *#!?\[tactic\(.*?\)\]$", re.M | re.S)
 for path in SOURCES:
     text = read(path)
     crate = path.split("/")[1]
-    found = [m for m in FUNCTION.finditer(text) if m.group(3) != "main"]
+    found = [m.group(3, 2, 4, 5) for m in FUNCTION.finditer(text) if m.group(3) != "main"]
+    found += [(m.group(1), "pub ", m.group(0), "") for m in DECLARED.finditer(text)]
     names = [n for _, n in re.findall(rf"^ *{BEFORE}fn (\w+)", text, re.M) if n != "main"]
-    hold(len(found) + len(DECLARED.findall(text)) == len(names), f"{path}: every function is recognized")
-    for m in found:
-        name, contract, body = m.group(3), m.group(4), m.group(5)
+    hold(len(found) == len(names), f"{path}: every function is recognized")
+    for name, before, contract, body in found:
         place = f"{crate}::{name}"
         hold("ensures" in contract, f"{place} has an ensures")
         hold(body.count("\n") <= 40, f"{place} has at most 40 lines")
         hold(not late_arrays(crate, body), f"{place} returns after its large arrays: {late_arrays(crate, body)}")
         parameters = set(re.findall(r"(\w+): ", re.split("requires|ensures", contract)[0]))
         hold(not parameters & LIBRARY, f"{place} gives no name of the library another meaning: {parameters & LIBRARY}")
-        if place in CALLS or "extern" in m.group(2):
+        if place in CALLS or "extern" in before:
             called.add(place)
             hold("requires" not in contract, f"{place} is called by users and has no requires")
-        if m.group(2).startswith("pub"):
+        if before.startswith("pub"):
             promise = contract[contract.find("ensures") :]
             hold("→" not in promise, f"{place} is public and promises without a premise")
     code = re.sub(r"//.*", "", text)

@@ -2,7 +2,8 @@
 """Writes docs/FUNCTIONS.md: each public function with its promise, the definitions that it cites, its wrong answers.
 
 The promise is the comment at the function (crates/*/src), the definitions are those that its contract names, the wrong
-answers are the edits of crates/*/must-fail. A method has the name of its type in front, one of a module the file's.
+answers are the edits of crates/*/must-fail. A method has the name of its type in front, or of its trait, one of a
+module the file's.
 With `--check` nothing is written, and the exit status is 1 where the file is another than would be written.
 """
 import glob
@@ -28,6 +29,8 @@ COMMENT = r"((?:^ *//[^\n]*\n)*)"
 ATTRIBUTES = r"(?:^ *#\[(?:(?!\]$).)*\]\n)*"
 FUNCTION = re.compile(COMMENT + ATTRIBUTES + r'^pub (?:extern "C" )?fn (\w+)(.*?)^\{$', re.M | re.S)
 METHOD = re.compile(COMMENT + ATTRIBUTES + r"^    pub fn (\w+)(.*?)^    \{$", re.M | re.S)
+# The functions of a public trait are public as it is, with a body or without.
+OF_TRAIT = re.compile(COMMENT + ATTRIBUTES + r"^    fn (\w+)(.*?)(?:;$|^    \{$)", re.M | re.S)
 # The definitions that a file names: those of its own crate and of others. What std defines is not among them.
 USE = re.compile(r"^ *ghost use Rattle\.(?!std\b)(\w+)\.specs\.(\w+)(?: as (\w+)|\.\{(.*?)\});", re.M | re.S)
 # How a clause of a contract begins: its kind, and its name where it has one.
@@ -71,6 +74,8 @@ def public(crate):
         for block in sources.BLOCK.finditer(text):
             owner = module + sources.owner(block.group(2))
             methods = METHOD.findall(block.group(3))
+            if block.group(0).startswith("pub trait"):
+                methods += OF_TRAIT.findall(block.group(3))
             here += [(f"{owner}::{name}", comment, signature) for comment, name, signature in methods]
         found += [{"name": n, "promise": words(comment), "cites": cited(text, s)} for n, comment, s in here]
     return found
